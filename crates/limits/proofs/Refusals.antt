@@ -1,0 +1,28 @@
+-- No two reasons have one number. Assumes nothing.
+use mathlib.Core.Path.{_≡_, refl, sym, ap, _∙_}
+use Prim.Native.Nat.{ℕ, zero, suc}
+use Rattle.limits.specs.Refusals.{numberOf, Told, done, refused}
+use Rattle.limits.specs.declared.Refusal.{Refusal}
+use Rattle.limits.specs.declared.Refusal.the-variants.{EndsEarly, WrongByte, OutsideLimits, ModuleTwice, MarkNotAbove, WrongMark, BytesAfter, NoRoom, AtTheEnd, NotARing}
+use lib.ListN.{getD}
+use mathlib.Core.List.{List, [], _∷_}
+
+-- the reasons in the order of their numbers
+reasons : List Refusal
+reasons = NotARing ∷ EndsEarly ∷ WrongByte ∷ OutsideLimits ∷ ModuleTwice ∷ MarkNotAbove ∷ WrongMark ∷ BytesAfter ∷ NoRoom ∷ AtTheEnd ∷ NotARing ∷ []
+
+numbered : (a : Refusal) → getD reasons (numberOf a) NotARing ≡ a
+unfolding reasons
+numbered EndsEarly = refl
+numbered WrongByte = refl
+numbered OutsideLimits = refl
+numbered ModuleTwice = refl
+numbered MarkNotAbove = refl
+numbered WrongMark = refl
+numbered BytesAfter = refl
+numbered NoRoom = refl
+numbered AtTheEnd = refl
+numbered NotARing = refl
+
+pub one-reason : (a b : Refusal) → numberOf a ≡ numberOf b → a ≡ b
+one-reason a b e = sym (numbered a) ∙ ap (λ (k : ℕ). getD reasons k NotARing) e ∙ numbered b
