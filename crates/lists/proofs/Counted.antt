@@ -9,8 +9,8 @@ use native.Mathlib.Numerals.{add-one}
 use native.Mathlib.Decide.{decLt}
 use native.Mathlib.Omega.{arith}
 use lib.Arith.{le-zero}
-use lib.ListN.{length, drop, set, getD, length-append, length-drop, List·getD-append}
-use lib.Seq.{getD-append-add, getD-drop, set-at, getD-at, drop-cons, append-snoc}
+use lib.ListN.{length, drop, set, getD, replicate, length-append, length-drop, length-replicate, getD-replicate, List·getD-append}
+use lib.Seq.{getD-append-add, getD-drop, set-at, getD-at, drop-cons, append-snoc, ext-getD}
 use Rattle.lists.specs.Counted.{tab, joined, sum, countBelow}
 
 -- a number below k + 1 is below k, or is k
@@ -61,6 +61,16 @@ drawn-above n f old d p l =
     ∙ getD-drop n old (p - n) d
     ∙ ap (λ (x : ℕ). getD old x d) g
 
+-- elements that are all alike are as they were
+pub drawn-alike : {A : Type 0} (x : A) (k p : ℕ) → p ≤ k → tab p (λ q. x) ++ drop p (replicate k x) ≡ replicate k x
+drawn-alike x k p h =
+    let e = length-drawn p (λ q. x) (replicate k x) (omega (arith, length-replicate k x)) in
+    ext-getD x (tab p (λ q. x) ++ drop p (replicate k x)) (replicate k x) e (λ i l. go i (omega (arith, e, length-replicate k x)) (decLt i p))
+  where
+    go : (i : ℕ) → i < k → Dec (i < p) → getD (tab p (λ q. x) ++ drop p (replicate k x)) i x ≡ getD (replicate k x) i x
+    go i l (yes b) = drawn-below p (λ q. x) (replicate k x) x i b ∙ sym (getD-replicate k i x x l)
+    go i l (no b) = drawn-above p (λ q. x) (replicate k x) x i (omega arith)
+
 -- ---- joined
 
 pub joined-more : {A : Type 0} (f : ℕ → List A) (k : ℕ) → joined (k + 1) f ≡ joined k f ++ f k
@@ -100,6 +110,13 @@ sum-mono f g (suc k) h = let r = sum-mono f g k (λ i l. h i (omega arith)) in l
 pub sum-at-most : (f : ℕ → ℕ) (c k : ℕ) → ((i : ℕ) → i < k → f i ≤ c) → sum k f ≤ c * k
 sum-at-most f c zero h = omega arith
 sum-at-most f c (suc k) h = let r = sum-at-most f c k (λ i l. h i (omega arith)) in let s = h k (omega arith) in omega (arith, mul-suc c k)
+
+pub count-le : (test : ℕ → Bool) (k : ℕ) → countBelow k test ≤ k
+count-le test k = let r = sum-at-most (λ i. cond (test i) 1 0) 1 k (λ i l. one (test i)) in omega arith
+  where
+    one : (b : Bool) → cond b 1 0 ≤ 1
+    one true = omega arith
+    one false = omega arith
 
 pub sum-split : (f : ℕ → ℕ) (a b : ℕ) → sum (a + b) f ≡ sum a f + sum b (λ i. f (a + i))
 sum-split f a zero = ap (λ (x : ℕ). sum x f) (add-zero a) ∙ sym (add-zero (sum a f))

@@ -1,0 +1,7 @@
+pub mod Drawing
+pub mod Judging
+pub mod Records
+pub mod Refusing
+pub mod Starting
+pub mod Unique
+pub mod Verdicts

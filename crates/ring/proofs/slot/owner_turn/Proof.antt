@@ -1,0 +1,14 @@
+-- `owner_turn`: the definition, field by field. Assumes nothing.
+use borrow.Author.Needs.{needs}
+use mathlib.Core.Path.{_≡_, refl, sym, ap, _∙_}
+use Rattle.ring.proofs.slot.owner_turn.Statement.{statement}
+use Rattle.ring.proofs.slot.owner_turn.Tie as tie
+
+fault-after-requires : tie.Need-fault-after-requires
+fault-after-requires c κs = search needs
+
+returns : tie.Need-returns
+returns c = rw (c .before .fault-after .ensures)
+
+pub owner-turn-spec : {M : Type 1} → statement M
+owner-turn-spec = tie.close (tie.spec fault-after-requires returns)

@@ -1,0 +1,19 @@
+-- `keeps_apart`: a seat keeps apart from itself. Assumes nothing.
+use borrow.Author.Needs.{needs}
+use mathlib.Core.Path.{_≡_, refl, sym, ap, _∙_}
+use mathlib.Core.Bool.{Bool, not}
+use borrow.Author.Tests.{eq-eqb, ne-eqb}
+use Rattle.ring.proofs.terms.keeps_apart.Statement.{statement}
+use Rattle.ring.proofs.terms.keeps_apart.Tie as tie
+
+returns : tie.Need-returns
+returns c = rw (eq-eqb _ _ (c .if1 .taken))
+
+too-close-requires : tie.Need-too-close-requires
+too-close-requires c κs = search needs
+
+returns-2 : tie.Need-returns-2
+returns-2 c = rw (ne-eqb _ _ (c .before .if1 .left)) (ap not (c .too-close .ensures))
+
+pub keeps-apart-spec : {M : Type 1} → statement M
+keeps-apart-spec = tie.close (tie.spec returns too-close-requires returns-2)

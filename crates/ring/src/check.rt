@@ -1,0 +1,88 @@
+// What is a ring, and which receive marks stand: the checks that come before a step.
+ghost use mathlib.Core.Path.{_≡_};
+ghost use Prim.Native.Nat.{_≤_};
+ghost use Rattle.ring.specs.Ring.{memberStands, absentStands, seatStands, everySeatStands, isRing};
+ghost use Rattle.ring.specs.Refusals.{marksStand};
+use crate::Ring;
+use crate::slot::Seat;
+use crate::slot::Slot;
+
+// A seat that the ring has.
+fn member_stands(s: Seat, n: usize, time: u16) -> bool
+    ensures { λ r. ⌜ r ≡ memberStands n time s ⌝ }
+{
+    if seats::full(n) < s.set {
+        return false;
+    }
+    s.fault <= time
+}
+
+// A seat that the ring does not have.
+fn absent_stands(s: Seat) -> bool
+    ensures { λ r. ⌜ r ≡ absentStands s ⌝ }
+{
+    if s.set != 0 {
+        return false;
+    }
+    if s.ack {
+        return false;
+    }
+    if s.doubt {
+        return false;
+    }
+    s.fault == 0
+}
+
+fn seat_stands(s: Seat, p: usize, n: usize, time: u16) -> bool
+    ensures { λ r. ⌜ r ≡ seatStands n time p s ⌝ }
+{
+    if p < n {
+        return member_stands(s, n, time);
+    }
+    absent_stands(s)
+}
+
+// All 32 are looked at, since a seat that the ring does not have must be empty.
+fn every_seat_stands(ring: Ring) -> bool
+    ensures { λ r. ⌜ r ≡ everySeatStands ring ⌝ }
+{
+    let n = ring.n;
+    let time = ring.time;
+    let mut p: usize = 0;
+    while p < limits::SEATS_MOST {
+        if !seat_stands(crate::slot::seat_of(ring, p), p, n, time) {
+            return false;
+        }
+        p += 1;
+    }
+    true
+}
+
+// A ring, with room for the records that it has.
+pub fn is_ring(ring: Ring, room: usize) -> bool
+    ensures { λ r. ⌜ r ≡ isRing ring room ⌝ }
+{
+    if ring.n < limits::SEATS_LEAST {
+        return false;
+    }
+    if limits::SEATS_MOST < ring.n {
+        return false;
+    }
+    if limits::SLOTS_MOST < ring.time {
+        return false;
+    }
+    if room < (ring.records as usize) {
+        return false;
+    }
+    every_seat_stands(ring)
+}
+
+// No receive mark for the owner or for no seat.
+pub fn marks_stand(slot: Slot, n: usize) -> bool
+    ensures { λ r. ⌜ r ≡ marksStand n slot ⌝ }
+{
+    if seats::full(n) < slot.receive {
+        return false;
+    }
+    !seats::has(slot.receive, slot.owner)
+}

@@ -1,0 +1,146 @@
+// The membership engine: a ring of modules, stepped slot by slot, with its trail and its verdict.
+ghost use Rattle.ring.specs.Promise.{ZeroPromise, FreshPromise, StepPromise, VerdictPromise};
+use limits::Refusal;
+
+mod check;
+mod draw;
+mod record;
+mod slot;
+mod start;
+mod table;
+mod terms;
+
+// The whole ring is one value. A first fault is kept as its time plus one, and 0 is none.
+pub struct Ring {
+    pub sets: [u32; 32],
+    pub acks: [bool; 32],
+    pub doubts: [bool; 32],
+    pub faults: [u16; 32],
+    pub n: usize,
+    pub time: u16,
+    pub records: u16,
+}
+
+// How a fresh ring or a step was answered; a refusal has its place.
+pub enum Answer {
+    Taken,
+    Refused(Refusal, u16),
+}
+
+pub struct Stepped {
+    pub answer: Answer,
+    pub ring: Ring,
+}
+
+// The fault terms hold up to the last step taken, or fail first up to the step named.
+pub enum Verdict {
+    Within,
+    Outside(u16),
+    Refused(Refusal, u16),
+}
+
+pub struct Judged {
+    pub verdict: Verdict,
+    pub ring: Ring,
+}
+
+impl Ring {
+    // No ring: no seats, every set empty, every bit false, no first fault.
+    pub fn zero() -> Ring
+        ensures { λ r. ⌜ ZeroPromise r ⌝ }
+    {
+        start::zero_ring()
+    }
+
+    // A ring of n seats, complete and sound; the ring it is asked of plays no part.
+    pub fn fresh(self, n: usize) -> Stepped
+        ensures { λ s. ⌜ FreshPromise n s ⌝ }
+    {
+        if n < limits::SEATS_LEAST {
+            return Stepped {
+                answer: Answer::Refused(Refusal::NotARing, 0),
+                ring: start::zero_ring(),
+            };
+        }
+        if limits::SEATS_MOST < n {
+            return Stepped {
+                answer: Answer::Refused(Refusal::NotARing, 0),
+                ring: start::zero_ring(),
+            };
+        }
+        Stepped {
+            answer: Answer::Taken,
+            ring: start::fresh_ring(n),
+        }
+    }
+
+    // One slot: the owner's send mark, the seats with a receive mark, and the trail that takes the records.
+    // The records are counted before any is written, so that a step without room leaves no trace.
+    pub fn step(self, send: bool, receive: u32, trail: &mut [u8]) -> Stepped
+        ensures { λ s. ⌜ StepPromise self send receive (now (trail .entry)) s (now (trail .exit)) ⌝ }
+    {
+        let room = record::room_for(trail.len());
+        let time = self.time;
+        if !check::is_ring(self, room) {
+            return Stepped {
+                answer: Answer::Refused(Refusal::NotARing, 0),
+                ring: self,
+            };
+        }
+        let n = self.n;
+        let slot = slot::slot_for(self, send, receive, (time as usize) % n);
+        if !check::marks_stand(slot, n) {
+            return Stepped {
+                answer: Answer::Refused(Refusal::WrongMark, time),
+                ring: self,
+            };
+        }
+        if time == limits::SLOTS_MOST {
+            return Stepped {
+                answer: Answer::Refused(Refusal::AtTheEnd, time),
+                ring: self,
+            };
+        }
+        let drawn = draw::draw(self, slot);
+        let records = self.records as usize;
+        let total = records + drawn.count;
+        if room < total {
+            return Stepped {
+                answer: Answer::Refused(Refusal::NoRoom, time),
+                ring: self,
+            };
+        }
+        draw::write(self, slot, trail, records, drawn.count);
+        let mut next = drawn.ring;
+        next.time = time + 1;
+        next.records = total as u16;
+        Stepped {
+            answer: Answer::Taken,
+            ring: next,
+        }
+    }
+
+    // Whether the fault terms hold up to the last step taken.
+    pub fn verdict(self) -> Judged
+        ensures { λ j. ⌜ VerdictPromise self j ⌝ }
+    {
+        if !check::is_ring(self, limits::ROOM_MOST) {
+            return Judged {
+                verdict: Verdict::Refused(Refusal::NotARing, 0),
+                ring: self,
+            };
+        }
+        let faults = self.faults;
+        let first = terms::first_failing(faults, self.n);
+        if first == 0 {
+            return Judged {
+                verdict: Verdict::Within,
+                ring: self,
+            };
+        }
+        Judged {
+            verdict: Verdict::Outside(first - 1),
+            ring: self,
+        }
+    }
+}

@@ -1,0 +1,169 @@
+// One slot, and what one seat makes of it from its own set, bits and first fault.
+ghost use mathlib.Core.Path.{_≡_};
+ghost use Prim.Native.Nat.{_<_, _≤_};
+ghost use Rattle.ring.specs.Ring.{seatOf};
+ghost use Rattle.ring.specs.Step.{slotFor, misses, viewOf, faultAfter, ownerTurn, otherTurn, turnOf};
+use crate::Ring;
+use crate::table::Removal;
+use crate::table::View;
+
+// What all seats share in a slot: the owner, whether it speaks and what, and the marks.
+pub struct Slot {
+    pub owner: usize,
+    pub speaks: bool,
+    pub bit: bool,
+    pub send: bool,
+    pub receive: u32,
+    pub time: u16,
+}
+
+// One seat of the ring.
+pub struct Seat {
+    pub set: u32,
+    pub ack: bool,
+    pub doubt: bool,
+    pub fault: u16,
+}
+
+// A seat after the slot, and whom it removed.
+pub struct Turn {
+    pub seat: Seat,
+    pub removal: Removal,
+}
+
+pub fn seat_of(ring: Ring, p: usize) -> Seat
+    requires { ⌜ p < 32 ⌝ }
+    ensures { λ s. ⌜ s ≡ seatOf ring p ⌝ }
+{
+    Seat {
+        set: ring.sets[p],
+        ack: ring.acks[p],
+        doubt: ring.doubts[p],
+        fault: ring.faults[p],
+    }
+}
+
+// The slot of owner b: it speaks if it is in its own set and has no send mark.
+pub fn slot_for(ring: Ring, send: bool, receive: u32, b: usize) -> Slot
+    requires { ⌜ b < 32 ⌝ }
+    ensures { λ c. ⌜ c ≡ slotFor ring send receive b ⌝ }
+{
+    let time = ring.time;
+    let bit = ring.acks[b];
+    if seats::has(ring.sets[b], b) {
+        return Slot {
+            owner: b,
+            speaks: !send,
+            bit,
+            send,
+            receive,
+            time,
+        };
+    }
+    Slot {
+        owner: b,
+        speaks: false,
+        bit,
+        send,
+        receive,
+        time,
+    }
+}
+
+// Whether p's receive mark takes hold, for a seat that expects the owner.
+fn missed(slot: Slot, p: usize) -> bool
+    ensures { λ r. ⌜ r ≡ misses slot p ⌝ }
+{
+    let speaks = slot.speaks;
+    if speaks {
+        seats::has(slot.receive, p)
+    } else {
+        false
+    }
+}
+
+// What a seat that expects the owner sees.
+fn view_of(slot: Slot, p: usize) -> View
+    ensures { λ v. ⌜ v ≡ viewOf slot p ⌝ }
+{
+    let speaks = slot.speaks;
+    if !speaks {
+        return View::Silent;
+    }
+    if seats::has(slot.receive, p) {
+        return View::Missed;
+    }
+    View::Heard(slot.bit)
+}
+
+// The first fault, kept as its time plus one: that of the first mark that took hold.
+fn fault_after(held: bool, time: u16, fault: u16) -> u16
+    requires { ⌜ time < 65535 ⌝ }
+    ensures { λ r. ⌜ r ≡ faultAfter held time fault ⌝ }
+{
+    if held {
+        if fault == 0 {
+            return time + 1;
+        }
+    }
+    fault
+}
+
+fn owner_turn(slot: Slot, s: Seat) -> Turn
+    requires { ⌜ slot .time < 65535 ⌝ }
+    ensures { λ t. ⌜ t ≡ ownerTurn slot s ⌝ }
+{
+    let fault = fault_after(slot.send, slot.time, s.fault);
+    Turn {
+        seat: Seat {
+            set: s.set,
+            ack: true,
+            doubt: !s.ack,
+            fault,
+        },
+        removal: Removal::Nobody,
+    }
+}
+
+fn other_turn(slot: Slot, p: usize, s: Seat) -> Turn
+    requires { ⌜ slot .time < 65535 ⌝ }
+    ensures { λ t. ⌜ t ≡ otherTurn slot p s ⌝ }
+{
+    let view = view_of(slot, p);
+    let decision = crate::table::decide(view, s.ack, s.doubt);
+    let removal = decision.removal;
+    let set = crate::table::after_removal(s.set, p, slot.owner, removal);
+    let fault = fault_after(missed(slot, p), slot.time, s.fault);
+    Turn {
+        seat: Seat {
+            set,
+            ack: decision.ack,
+            doubt: false,
+            fault,
+        },
+        removal,
+    }
+}
+
+// Seat p in the slot. One that is out, or does not have the owner in its set, changes nothing.
+pub fn turn_of(slot: Slot, p: usize, s: Seat) -> Turn
+    requires { ⌜ slot .time < 65535 ⌝ }
+    ensures { λ t. ⌜ t ≡ turnOf slot p s ⌝ }
+{
+    if !seats::has(s.set, p) {
+        return Turn {
+            seat: s,
+            removal: Removal::Nobody,
+        };
+    }
+    if p == slot.owner {
+        return owner_turn(slot, s);
+    }
+    if seats::has(s.set, slot.owner) {
+        return other_turn(slot, p, s);
+    }
+    Turn {
+        seat: s,
+        removal: Removal::Nobody,
+    }
+}

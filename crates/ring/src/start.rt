@@ -1,0 +1,36 @@
+// The rings that a run starts from: the zero ring and a fresh one.
+ghost use mathlib.Core.Path.{_≡_};
+ghost use Prim.Native.Nat.{_≤_};
+ghost use Rattle.ring.specs.Ring.{zeroRing, freshRing};
+use crate::Ring;
+
+pub fn zero_ring() -> Ring
+    ensures { λ r. ⌜ r ≡ zeroRing ⌝ }
+{
+    Ring {
+        sets: [0; 32],
+        acks: [false; 32],
+        doubts: [false; 32],
+        faults: [0; 32],
+        n: 0,
+        time: 0,
+        records: 0,
+    }
+}
+
+// Every seat in every set of the n seats, and every acknowledgement true.
+pub fn fresh_ring(n: usize) -> Ring
+    requires { ⌜ n ≤ 32 ⌝ }
+    ensures { λ r. ⌜ r ≡ freshRing n ⌝ }
+{
+    let full = seats::full(n);
+    let mut ring = zero_ring();
+    ring.n = n;
+    let mut p: usize = 0;
+    while p < n {
+        ring.sets[p] = full;
+        ring.acks[p] = true;
+        p += 1;
+    }
+    ring
+}
