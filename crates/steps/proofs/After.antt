@@ -1,12 +1,12 @@
 -- The ring and the trail after a step: the seats, the records' bytes, and that a ring leads to a ring. Assumes nothing.
 use mathlib.Core.Path.{_≡_, refl, _∙_}
-use mathlib.Core.Bool.{Bool, false}
+use mathlib.Core.Bool.{Bool}
 use mathlib.Core.List.{List, [], _∷_}
 use Prim.Native.Nat.{ℕ, _+_, _*_, _≤_, _<_}
 use native.Mathlib.Omega.{arith}
 use lib.ListN.{length}
 use Rattle.lists.specs.Counted.{joined, sum}
-use Rattle.lists.proofs.Counted.{drawn-below, drawn-above, length-joined, sum-same, sum-times}
+use Rattle.lists.proofs.Counted.{length-joined, sum-same, sum-times}
 use Rattle.lists.proofs.Put.{length-put}
 use Rattle.ring.specs.Ring.{seatOf}
 use Rattle.ring.specs.Table.{Gone}
@@ -15,6 +15,7 @@ use Rattle.ring.specs.Trail.{width, recordsOf, roomFor}
 use Rattle.ring.specs.declared.Ring.{Ring}
 use Rattle.ring.specs.declared.slot.Slot.{Slot}
 use Rattle.steps.proofs.Valid.{Valid, Member}
+use Rattle.steps.proofs.Drawn.{drawn-seat, undrawn-seat}
 use Rattle.steps.proofs.Turn.{set-le, fault-by}
 
 -- ---- the seats
@@ -22,23 +23,11 @@ use Rattle.steps.proofs.Turn.{set-le, fault-by}
 module _ (r : Ring) (c : Slot) where
   -- a seat below n is as its turn leaves it
   pub seat-after : (p : ℕ) → p < r .n → seatOf (ringAfter r c) p ≡ turnOf c p (seatOf r p) .seat
-  seat-after p l =
-      rw (
-        drawn-below (r .n) (λ q. turnAt r c q .seat .set) (r .sets) 0 p l,
-        drawn-below (r .n) (λ q. turnAt r c q .seat .ack) (r .acks) false p l,
-        drawn-below (r .n) (λ q. turnAt r c q .seat .doubt) (r .doubts) false p l,
-        drawn-below (r .n) (λ q. turnAt r c q .seat .fault) (r .faults) 0 p l,
-      )
+  seat-after = drawn-seat (r .n) r (λ q. turnAt r c q .seat)
 
   -- a seat n or above is as it was
   pub seat-beyond : (p : ℕ) → r .n ≤ p → seatOf (ringAfter r c) p ≡ seatOf r p
-  seat-beyond p l =
-      rw (
-        drawn-above (r .n) (λ q. turnAt r c q .seat .set) (r .sets) 0 p l,
-        drawn-above (r .n) (λ q. turnAt r c q .seat .ack) (r .acks) false p l,
-        drawn-above (r .n) (λ q. turnAt r c q .seat .doubt) (r .doubts) false p l,
-        drawn-above (r .n) (λ q. turnAt r c q .seat .fault) (r .faults) 0 p l,
-      )
+  seat-beyond = undrawn-seat (r .n) r (λ q. turnAt r c q .seat)
 
 -- ---- the records
 

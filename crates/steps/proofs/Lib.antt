@@ -1,4 +1,5 @@
 pub mod Valid
+pub mod Drawn
 pub mod Turn
 pub mod Taken
 pub mod After

@@ -1,6 +1,6 @@
 -- Runs: a fresh ring is a ring, and so is every ring that a run from it comes to. Assumes nothing.
 use mathlib.Core.Path.{_≡_, refl, sym, _∙_, subst}
-use mathlib.Core.Bool.{Bool, true, false}
+use mathlib.Core.Bool.{Bool, false}
 use mathlib.Core.List.{List}
 use Prim.Native.Nat.{ℕ, _≤_, _<_}
 use native.Mathlib.Nat.{le-refl}
@@ -8,14 +8,13 @@ use native.Mathlib.Omega.{arith}
 use lib.Pow.{pow-pos}
 use lib.ListN.{length, getD-replicate}
 use Rattle.limits.specs.Refusals.{done}
-use Rattle.lists.proofs.Counted.{drawn-below, drawn-above}
-use Rattle.seats.specs.Sets.{fullSet}
 use Rattle.seats.proofs.Sets.{full-is}
 use Rattle.ring.specs.Ring.{seatOf, noSeat, freshSeat, zeroRing, freshRing}
 use Rattle.ring.specs.Step.{slotOf, ringAfter, trailAfter}
 use Rattle.ring.specs.Trail.{roomFor}
 use Rattle.steps.specs.Run.{Marks, Bench, toldOn, stepOn, freshBench, Reached, start, taken}
 use Rattle.steps.proofs.Valid.{Valid, Member}
+use Rattle.steps.proofs.Drawn.{drawn-seat, undrawn-seat}
 use Rattle.steps.proofs.Taken.{told-taken, taken-ring, taken-trail}
 use Rattle.steps.proofs.After.{valid-after, length-after, room-bytes}
 
@@ -35,13 +34,7 @@ fresh-records n = refl
 
 pub fresh-seat : (n p : ℕ) → p < n → seatOf (freshRing n) p ≡ freshSeat n
 unfolding freshRing
-fresh-seat n p l =
-    rw (
-      drawn-below n (λ q. fullSet n) (zeroRing .sets) 0 p l,
-      drawn-below n (λ q. true) (zeroRing .acks) false p l,
-      drawn-below n (λ q. false) (zeroRing .doubts) false p l,
-      drawn-below n (λ q. 0) (zeroRing .faults) 0 p l,
-    )
+fresh-seat n = drawn-seat n zeroRing (λ q. freshSeat n)
 
 zero-seat : (p : ℕ) → p < 32 → seatOf zeroRing p ≡ noSeat
 unfolding zeroRing
@@ -49,14 +42,7 @@ zero-seat p l = rw (getD-replicate {A = ℕ} 32 p 0 0 l, getD-replicate {A = Boo
 
 pub fresh-beyond : (n p : ℕ) → n ≤ p → p < 32 → seatOf (freshRing n) p ≡ noSeat
 unfolding freshRing
-fresh-beyond n p l h =
-    rw (
-      drawn-above n (λ q. fullSet n) (zeroRing .sets) 0 p l,
-      drawn-above n (λ q. true) (zeroRing .acks) false p l,
-      drawn-above n (λ q. false) (zeroRing .doubts) false p l,
-      drawn-above n (λ q. 0) (zeroRing .faults) 0 p l,
-    )
-    (zero-seat p h)
+fresh-beyond n p l h = undrawn-seat n zeroRing (λ q. freshSeat n) p l ∙ zero-seat p h
 
 pub fresh-valid : (n room : ℕ) → 2 ≤ n → n ≤ 32 → Valid (freshRing n) room
 fresh-valid n room l h =
