@@ -1,12 +1,12 @@
 -- What the records in a trail say, and how many of them say a thing.
-use mathlib.Core.Bool.{Bool, _&&_, not}
+use mathlib.Core.Bool.{Bool, _&&_}
 use mathlib.Core.List.{List}
 use Prim.Native.Nat.{ℕ, _+_, _*_}
 use lib.Dec.{eqb}
 use lib.ListN.{getD}
 use Rattle.lists.specs.Counted.{countBelow}
-use Rattle.seats.specs.Sets.{hasSeat}
 use Rattle.ring.specs.Trail.{width}
+use Rattle.steps.specs.Run.{Bench}
 
 -- what a record says
 pub record Entry : Type 0 where
@@ -35,3 +35,7 @@ heldBy p e = eqb (e .holder) p
 -- its holder is p and its removed seat is q
 abbrev pub tellsOf : ℕ → ℕ → Entry → Bool
 tellsOf p q e = eqb (e .holder) p && eqb (e .removed) q
+
+-- how many of the records written have the holder p
+abbrev pub recordsBy : ℕ → Bench → ℕ
+recordsBy p b = passing (heldBy p) 0 (b .ring .records) (b .trail)

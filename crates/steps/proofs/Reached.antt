@@ -1,21 +1,22 @@
 -- Runs: a fresh ring is a ring, and so is every ring that a run from it comes to. Assumes nothing.
 use mathlib.Core.Path.{_≡_, refl, sym, _∙_, subst}
 use mathlib.Core.Bool.{Bool, false}
-use mathlib.Core.List.{List}
+use mathlib.Core.List.{List, [], _∷_}
+use mathlib.Core.Logic.{⊎-elim}
 use Prim.Native.Nat.{ℕ, _≤_, _<_}
 use native.Mathlib.Nat.{le-refl}
 use native.Mathlib.Omega.{arith}
 use lib.Pow.{pow-pos}
 use lib.ListN.{length, getD-replicate}
-use Rattle.limits.specs.Refusals.{done}
+use Rattle.limits.specs.Refusals.{done, refused}
 use Rattle.seats.proofs.Sets.{full-is}
 use Rattle.ring.specs.Ring.{seatOf, noSeat, freshSeat, zeroRing, freshRing}
 use Rattle.ring.specs.Step.{slotOf, ringAfter, trailAfter}
 use Rattle.ring.specs.Trail.{roomFor}
-use Rattle.steps.specs.Run.{Marks, Bench, toldOn, stepOn, freshBench, Reached, start, taken}
+use Rattle.steps.specs.Run.{Marks, Bench, toldOn, stepOn, freshBench, Reached, start, taken, runOn}
 use Rattle.steps.proofs.Valid.{Valid, Member}
 use Rattle.steps.proofs.Drawn.{drawn-seat, undrawn-seat}
-use Rattle.steps.proofs.Taken.{told-taken, taken-ring, taken-trail}
+use Rattle.steps.proofs.Taken.{told-is, told-taken, refused-ring, refused-trail, taken-ring, taken-trail}
 use Rattle.steps.proofs.After.{valid-after, length-after, room-bytes}
 
 -- ---- a fresh ring
@@ -110,3 +111,21 @@ module _ (n : ℕ) (trail : List ℕ) (low : 2 ≤ n) (high : n ≤ 32) where
   reached-elim P base next start = base
   reached-elim P base next (taken {b = b} w m e) =
       subst P (sym (step-after m b e)) (next m b (reached-stands w) e (reached-elim P base next w))
+
+-- ---- a run whose steps are taken or refused
+
+pub step-refused : (m : Marks) (b : Bench) {k q : ℕ} → toldOn m b ≡ refused k q → stepOn m b ≡ b
+step-refused m b e =
+    let f = refused-ring (b .ring) (m .send) (m .receive) (b .trail) e in
+    let g = refused-trail (b .ring) (m .send) (m .receive) (b .trail) e in
+    λ i. record { ring = f i; trail = g i }
+
+-- a refused step leaves the bench, so such a run comes to the benches of one whose steps are all taken
+pub run-reached : {n : ℕ} {trail : List ℕ} (ms : List Marks) {b : Bench} → Reached n trail b → Reached n trail (runOn ms b)
+unfolding runOn
+run-reached [] w = w
+run-reached {n} {trail} (m ∷ ms) {b} w =
+    ⊎-elim
+    (λ e. run-reached ms (taken w m e))
+    (λ x. run-reached ms (subst (λ (y : Bench). Reached n trail y) (sym (step-refused m b (x .2))) w))
+    (told-is (toldOn m b))
