@@ -3,3 +3,5 @@ pub mod Entries
 pub mod Tally
 pub mod Gone
 pub mod Sum
+pub mod Standing
+pub mod Story
