@@ -5,3 +5,4 @@ pub mod Gone
 pub mod Sum
 pub mod Standing
 pub mod Story
+pub mod Paper

@@ -1,3 +1,4 @@
 pub mod Refused
 pub mod Records
 pub mod Story
+pub mod Paper
