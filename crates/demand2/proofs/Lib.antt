@@ -6,3 +6,4 @@ pub mod Sum
 pub mod Standing
 pub mod Story
 pub mod Paper
+pub mod Empty

@@ -2,3 +2,4 @@ pub mod Refused
 pub mod Records
 pub mod Story
 pub mod Paper
+pub mod Empty
