@@ -1,8 +1,8 @@
 -- Demand 2's protocol: a step taken gives every seat in its own set the membership set and the acknowledgement bit of document 002 as corrected
 -- in its footnote 4 (specs/Paper.antt), and changes nothing of a seat outside its own set. The doubt bit stands for the footnote's words 'was
 -- the previous broadcaster and sent a false ack', and along any run it says just that.
-use mathlib.Core.Path.{_≡_, refl, sym, ap, ap₂, _∙_, subst}
-use mathlib.Core.Bool.{Bool, true, false, cond, not, _&&_, and-true, and-false, Bool·not-not, true≢false}
+use mathlib.Core.Path.{_≡_, refl, sym, ap, _∙_, subst}
+use mathlib.Core.Bool.{Bool, true, false, cond, not, _&&_, _||_, and-true, and-false, Bool·not-not, true≢false}
 use mathlib.Core.List.{List}
 use mathlib.Core.Logic.{⊎-elim}
 use Prim.Native.Nat.{ℕ, _≤_, _<_}
@@ -17,7 +17,7 @@ use Rattle.seats.proofs.Sets.{without-same, without-other}
 use Rattle.ring.specs.Ring.{seatOf, freshRing, zeroRing, isRing, everySeatStands}
 use Rattle.ring.specs.Table.{Row, table, bitOf, goneBy, withoutAll}
 use Rattle.ring.specs.Table.{arrived as seen}
-use Rattle.ring.specs.Step.{viewOf, slotOf, turnOf}
+use Rattle.ring.specs.Step.{slotOf, otherTurn, turnOf}
 use Rattle.ring.specs.Refusals.{told, stepTold}
 use Rattle.ring.specs.Promise.{StepPromise, ringOf, trailOf}
 use Rattle.ring.specs.declared.Ring.{Ring}
@@ -32,7 +32,8 @@ use Rattle.steps.proofs.Turn.{turn-elim, turn-out}
 use Rattle.steps.proofs.Taken.{taken-ring}
 use Rattle.steps.proofs.After.{seat-after, seat-beyond}
 use Rattle.steps.proofs.Reached.{fresh-seat, step-after, reached-stands}
-use Rattle.demand2.specs.Paper.{broadcaster, membership, ack, expects, arrived, excludesItself, excludesBroadcaster, updatedAck, Updated, received, updated, history, sentFalse}
+use Rattle.demand2.specs.Story.{rowOf}
+use Rattle.demand2.specs.Paper.{broadcaster, membership, ack, expects, arrived, Knows, caseC, caseD, Does, does, knowsIn, Updated, received, updated, history, sentFalse}
 
 -- ---- what is said
 
@@ -61,7 +62,16 @@ abbrev pub PaperRun : Type 0
 PaperRun = (n : ℕ) (trail : List ℕ) → 2 ≤ n → n ≤ 32 → (b : Bench) (w : Reached n trail b) (m : Marks) → toldOn m b ≡ done
     → (p : ℕ) → p < n → membership (b .ring) p p ≡ true → Holds (seatOf (stepOn m b .ring) p) (updated (b .ring) m (sentFalse p (history w)) p)
 
--- ---- the table is the paper's formulas
+-- the causes that a deciding seat's row of the table gives are the paper's cases: a to d by their letters, e for the footnote
+abbrev pub PaperCauses : Type 0
+PaperCauses = (r : Ring) (m : Marks) (p : ℕ) → membership r p (broadcaster r) ≡ true
+    → rowOf r (slotOf r (m .send) (m .receive)) p .removed ≡ does (knowsIn r m (seatOf r p .doubt) p) .causes
+
+-- the paper's own remark on the rules as they stand before the footnote: the updated ack is true where p retains b
+abbrev pub AckRetains : Type 0
+AckRetains = (k : Knows) → does k .ack ≡ not (caseC k || caseD k)
+
+-- ---- the table is the paper's rules
 
 -- whether a removal takes the seat itself, and whether it takes the owner
 takesItself : Removal → Bool
@@ -76,34 +86,21 @@ takesOwner (Itself c) = false
 takesOwner (Owner c) = true
 takesOwner (Both c d) = true
 
-table-itself : (a bit own d : Bool) → takesItself (table a bit own d .removed) ≡ excludesItself a bit own d
-unfolding takesItself
-table-itself true true true d = refl
-table-itself true true false d = refl
-table-itself true false true false = refl
-table-itself true false true true = refl
-table-itself true false false d = refl
-table-itself false bit true d = refl
-table-itself false bit false d = refl
+rowDoes : Row → Does
+rowDoes x = record { itself = takesItself (x .removed); broadcaster = takesOwner (x .removed); causes = x .removed; ack = x .ack }
 
-table-owner : (a bit own d : Bool) → takesOwner (table a bit own d .removed) ≡ excludesBroadcaster a bit own d
-unfolding takesOwner
-table-owner true true true d = refl
-table-owner true true false d = refl
-table-owner true false true false = refl
-table-owner true false true true = refl
-table-owner true false false d = refl
-table-owner false bit true d = refl
-table-owner false bit false d = refl
+knows : Bool → Bool → Bool → Bool → Knows
+knows a bit own d = record { arrived = a; ackB = bit; ackP = own; sentFalse = d }
 
-table-ack : (a bit own d : Bool) → table a bit own d .ack ≡ updatedAck a bit own
-table-ack true true true d = refl
-table-ack true true false d = refl
-table-ack true false true false = refl
-table-ack true false true true = refl
-table-ack true false false d = refl
-table-ack false bit true d = refl
-table-ack false bit false d = refl
+table-does : (a bit own d : Bool) → rowDoes (table a bit own d) ≡ does (knows a bit own d)
+unfolding takesItself takesOwner rowDoes knows
+table-does true true true d = refl
+table-does true true false d = refl
+table-does true false true false = refl
+table-does true false true true = refl
+table-does true false false d = refl
+table-does false bit true d = refl
+table-does false bit false d = refl
 
 -- what a seat sees, as the table takes it
 view-table : (speaks marked bit own d : Bool)
@@ -143,7 +140,7 @@ module _ (r : Ring) (m : Marks) (d : Bool) (p : ℕ) where
   updated-own : membership r p (broadcaster r) ≡ true → p ≡ broadcaster r → record { membership = membership r p; ack = true } ≡ updated r m d p
   updated-own h e = rw (h, eq-eqb p (broadcaster r) e)
 
-  updated-received : membership r p (broadcaster r) ≡ true → (p ≡ broadcaster r → ⊥) → received r m d p ≡ updated r m d p
+  updated-received : membership r p (broadcaster r) ≡ true → (p ≡ broadcaster r → ⊥) → received r p (does (knowsIn r m d p)) ≡ updated r m d p
   updated-received h n = rw (h, ne-eqb p (broadcaster r) n)
 
   updated-none : membership r p (broadcaster r) ≡ false → record { membership = membership r p; ack = ack r p } ≡ updated r m d p
@@ -157,29 +154,34 @@ module _ (r : Ring) (m : Marks) (d : Bool) (p : ℕ) where
       ∙ rw h
 
 module _ (r : Ring) (m : Marks) (p : ℕ) where
+  -- the row of a seat that expects the owner does what the paper says
+  row-does : membership r p (broadcaster r) ≡ true
+      → rowDoes (rowOf r (slotOf r (m .send) (m .receive)) p) ≡ does (knowsIn r m (seatOf r p .doubt) p)
+  unfolding knows
+  row-does g =
+      let c = slotOf r (m .send) (m .receive) in
+      let b = broadcaster r in
+      ap rowDoes
+      (view-table (c .speaks) (hasSeat (m .receive) p) (c .bit) (ack r p) (seatOf r p .doubt)
+      ∙ ap (λ (x : Bool). table x (ack r b) (ack r p) (seatOf r p .doubt)) (arrived-is r m (seatOf r p .doubt) p g))
+      ∙ table-does (arrived r m p) (ack r b) (ack r p) (seatOf r p .doubt)
+
+  other-paper : membership r p (broadcaster r) ≡ true
+      → Holds (otherTurn (slotOf r (m .send) (m .receive)) p (seatOf r p) .seat) (received r p (rowDoes (rowOf r (slotOf r (m .send) (m .receive)) p)))
+  unfolding rowDoes
+  other-paper g = record {
+    membership = λ q. gone-has (seatOf r p .set) p (broadcaster r) q (rowOf r (slotOf r (m .send) (m .receive)) p .removed);
+    ack = refl;
+  }
+
   turn-paper : membership r p p ≡ true → Holds (turnOf (slotOf r (m .send) (m .receive)) p (seatOf r p) .seat) (updated r m (seatOf r p .doubt) p)
   turn-paper i =
-      let c = slotOf r (m .send) (m .receive) in
-      let s = seatOf r p in
-      let b = broadcaster r in
-      turn-elim c p s (λ t. Holds (t .seat) (updated r m (s .doubt) p))
+      let d = seatOf r p .doubt in
+      turn-elim (slotOf r (m .send) (m .receive)) p (seatOf r p) (λ t. Holds (t .seat) (updated r m d p))
       (λ h. absurd (true≢false (sym i ∙ h)))
-      (λ h e. subst (Holds _) (updated-own r m (s .doubt) p (ap (membership r p) (sym e) ∙ h) e) (record { membership = λ q. refl; ack = refl }))
-      (λ h n g.
-      let row : table (seen (viewOf c p)) (bitOf (viewOf c p)) (s .ack) (s .doubt) ≡ table (arrived r m p) (ack r b) (s .ack) (s .doubt) =
-      view-table (c .speaks) (hasSeat (m .receive) p) (c .bit) (s .ack) (s .doubt)
-      ∙ ap (λ (x : Bool). table x (ack r b) (s .ack) (s .doubt)) (arrived-is r m (s .doubt) p g) in
-      subst (Holds _) (updated-received r m (s .doubt) p g n)
-      (record {
-        membership = λ q.
-            ap (λ (x : Row). hasSeat (withoutAll (s .set) (goneBy p b (x .removed))) q) row
-            ∙ gone-has (s .set) p b q (table (arrived r m p) (ack r b) (s .ack) (s .doubt) .removed)
-            ∙ ap₂ (λ (x y : Bool). hasSeat (s .set) q && not (eqb q p && x) && not (eqb q b && y))
-            (table-itself (arrived r m p) (ack r b) (s .ack) (s .doubt))
-            (table-owner (arrived r m p) (ack r b) (s .ack) (s .doubt));
-        ack = ap (λ (x : Row). x .ack) row ∙ table-ack (arrived r m p) (ack r b) (s .ack) (s .doubt);
-      }))
-      (λ h n g. subst (Holds _) (updated-none r m (s .doubt) p g) (record { membership = λ q. refl; ack = refl }))
+      (λ h e. subst (Holds _) (updated-own r m d p (ap (membership r p) (sym e) ∙ h) e) (record { membership = λ q. refl; ack = refl }))
+      (λ h n g. subst (Holds _) (ap (received r p) (row-does g) ∙ updated-received r m d p g n) (other-paper g))
+      (λ h n g. subst (Holds _) (updated-none r m d p g) (record { membership = λ q. refl; ack = refl }))
 
   -- ---- the doubt bit
 
@@ -232,6 +234,20 @@ paper-run n trail low high b w m e p l i =
     (subst (λ (x : Bool). Holds (turnOf (slotOf r (m .send) (m .receive)) p (seatOf r p) .seat) (updated r m x p))
     (doubt-says n trail low high b w p l) (turn-paper r m p i))
 
+pub paper-causes : PaperCauses
+unfolding rowDoes
+paper-causes r m p g = ap (λ (x : Does). x .causes) (row-does r m p g)
+
+pub ack-retains : AckRetains
+ack-retains k = go (k .arrived) (k .ackB) (k .ackP)
+  where
+    go : (a bit own : Bool) → (a && (bit || not own)) ≡ not (not a || (own && not bit))
+    go true true true = refl
+    go true true false = refl
+    go true false true = refl
+    go true false false = refl
+    go false bit own = refl
+
 -- ---- one such run: 3 seats, seat 1 misses time 0 and then speaks; it doubts, and the next broadcast excludes it by the footnote
 
 missed : Marks
@@ -240,24 +256,26 @@ missed = record { send = false; receive = 2 }
 quiet : Marks
 quiet = record { send = false; receive = 0 }
 
-trail₀ : List ℕ
-trail₀ = replicate 45 0
+bench₀ : Bench
+bench₀ = freshBench 3 (replicate 45 0)
 
-first : Reached 3 trail₀ (stepOn missed (freshBench 3 trail₀))
-unfolding missed trail₀ ringOf trailOf stepTold isRing everySeatStands freshRing zeroRing turnOf
-first = taken start missed refl
+bench₂ : Bench
+bench₂ = stepOn quiet (stepOn missed bench₀)
 
-second : Reached 3 trail₀ (stepOn quiet (stepOn missed (freshBench 3 trail₀)))
-unfolding missed quiet trail₀ ringOf trailOf stepTold isRing everySeatStands freshRing zeroRing turnOf
-second = taken first quiet refl
+run₂ : Reached 3 (replicate 45 0) bench₂
+unfolding bench₀ bench₂ missed quiet ringOf trailOf stepTold isRing everySeatStands freshRing zeroRing turnOf
+run₂ = taken (taken start missed refl) quiet refl
 
-third : toldOn quiet (stepOn quiet (stepOn missed (freshBench 3 trail₀))) ≡ done
-unfolding missed quiet trail₀ ringOf trailOf stepTold isRing everySeatStands freshRing zeroRing turnOf
-third = refl
+-- at time 2 it is in its own set, and has sent a false ack in its own slot; by the footnote it leaves, and would stay without it
+doubts : (toldOn quiet bench₂ ≡ done)
+    × (membership (bench₂ .ring) 1 1 ≡ true)
+    × (sentFalse 1 (history run₂) ≡ true)
+    × (updated (bench₂ .ring) quiet true 1 .membership 1 ≡ false)
+    × (updated (bench₂ .ring) quiet false 1 .membership 1 ≡ true)
+unfolding run₂ history bench₀ bench₂ missed quiet ringOf trailOf stepTold isRing everySeatStands freshRing zeroRing turnOf
+doubts = (refl, refl, refl, refl, refl)
 
-example : (sentFalse 1 (history second) ≡ true)
-    × (membership (stepOn quiet (stepOn missed (freshBench 3 trail₀)) .ring) 1 1 ≡ true)
-    × (updated (stepOn quiet (stepOn missed (freshBench 3 trail₀)) .ring) quiet true 1 .membership 1 ≡ false)
-    × (updated (stepOn quiet (stepOn missed (freshBench 3 trail₀)) .ring) quiet false 1 .membership 1 ≡ true)
-unfolding first second history missed quiet trail₀ ringOf trailOf stepTold isRing everySeatStands freshRing zeroRing turnOf
-example = (refl, refl, refl, refl)
+-- at time 3 it is out, and a step is taken
+stays : (toldOn quiet (stepOn quiet bench₂) ≡ done) × (membership (stepOn quiet bench₂ .ring) 1 1 ≡ false)
+unfolding bench₀ bench₂ missed quiet ringOf trailOf stepTold isRing everySeatStands freshRing zeroRing turnOf
+stays = (refl, refl)

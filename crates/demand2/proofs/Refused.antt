@@ -8,6 +8,7 @@ use Prim.Native.Nat.{ℕ, zero, suc, _+_, _*_, _/_, _%_, _^_, _≤_, _<_}
 use native.Mathlib.Nat.{pow-suc}
 use native.Mathlib.Omega.{arith}
 use lib.Dec.{leb, ltb, eqb}
+use lib.ListN.{replicate}
 use lib.Pow.{pow-pos, pow-mono, shr-lt, shr-mono, shl-shr}
 use borrow.Author.Tests.{leb-true, leb-false, ltb-true, ltb-false, eqb-true, eqb-false, eq-eqb, ne-eqb, le-leb, lt-leb, not-true, not-false}
 use Rattle.limits.specs.Refusals.{Told, done, refused}
@@ -17,10 +18,12 @@ use Rattle.seats.proofs.Sets.{below-full, full-is, none-past}
 use Rattle.ring.specs.Ring.{isRing, ownerOf, zeroRing, freshRing, withCounts, everySeatStands}
 use Rattle.ring.specs.Step.{slotOf, countIn, turnOf}
 use Rattle.ring.specs.Refusals.{told, marksStand, stepTold}
-use Rattle.ring.specs.Promise.{StepPromise}
+use Rattle.ring.specs.Promise.{StepPromise, ringOf, trailOf}
 use Rattle.ring.specs.Trail.{roomFor}
 use Rattle.ring.specs.declared.Ring.{Ring}
 use Rattle.ring.specs.declared.Stepped.{Stepped}
+use Rattle.ring.specs.declared.Answer.the-variants.{Refused}
+use Rattle.limits.specs.declared.Refusal.the-variants.{NoRoom}
 use Rattle.steps.proofs.Valid.{Valid, ring-valid, valid-ring}
 use Rattle.steps.proofs.Taken.{refused-ring, refused-trail}
 use Rattle.demand2.specs.Refused.{WrongMark, Answered, not-a-ring, wrong-mark, at-the-end, no-room, taken}
@@ -196,3 +199,8 @@ eight = refl
 none : stepTold (freshRing 4) true 0 15 ≡ done
 unfolding stepTold isRing everySeatStands freshRing zeroRing turnOf
 none = refl
+
+-- and the promise is kept of a refused step so
+left-alone : StepPromise (freshRing 4) true 0 (replicate 14 7) (record { answer = Refused NoRoom 0; ring = freshRing 4 }) (replicate 14 7)
+unfolding ringOf trailOf stepTold isRing everySeatStands freshRing zeroRing turnOf
+left-alone = record { answer = refl; ring = refl; trail = refl }

@@ -6,6 +6,9 @@ use lib.Dec.{eqb}
 use Rattle.seats.specs.Sets.{hasSeat}
 use Rattle.ring.specs.Ring.{seatOf}
 use Rattle.ring.specs.declared.Ring.{Ring}
+use Rattle.ring.specs.declared.table.Cause.the-variants.{A, B, C, D, E}
+use Rattle.ring.specs.declared.table.Removal.{Removal}
+use Rattle.ring.specs.declared.table.Removal.the-variants.{Nobody, Itself, Owner, Both}
 use Rattle.steps.specs.Run.{Marks, Bench, Reached, start, taken}
 
 -- ---- what each processor has
@@ -36,34 +39,53 @@ broadcasts r m = membership r (broadcaster r) (broadcaster r) && not (m .send)
 abbrev pub arrived : Ring → Marks → ℕ → Bool
 arrived r m p = membership r p (broadcaster r) && broadcasts r m && not (hasSeat (m .receive) p)
 
--- ---- the exclusions. Of ack(b) only that of a broadcast received is known to p, so (d) is about one that arrived
+-- ---- the rules for a processor p that expects the broadcaster b and is not b
+
+-- what p decides from; ack(b) is that of the broadcast received
+pub record Knows : Type 0 where
+  pub arrived : Bool
+  pub ackB : Bool
+  pub ackP : Bool
+  -- footnote 4: p was the previous broadcaster and sent a false ack in that broadcast
+  pub sentFalse : Bool
 
 -- (a) (NOT arrived(b,p)) AND NOT ack(p)
-abbrev pub caseA : Bool → Bool → Bool → Bool
-caseA arrived ackB ackP = not arrived && not ackP
+abbrev pub caseA : Knows → Bool
+caseA k = not (k .arrived) && not (k .ackP)
 
 -- (b) arrived(b,p) AND ack(b) AND NOT ack(p)
-abbrev pub caseB : Bool → Bool → Bool → Bool
-caseB arrived ackB ackP = arrived && ackB && not ackP
+abbrev pub caseB : Knows → Bool
+caseB k = k .arrived && k .ackB && not (k .ackP)
 
 -- (c) NOT arrived(b,p)
-abbrev pub caseC : Bool → Bool → Bool → Bool
-caseC arrived ackB ackP = not arrived
+abbrev pub caseC : Knows → Bool
+caseC k = not (k .arrived)
 
 -- (d) ack(p) AND NOT ack(b)
-abbrev pub caseD : Bool → Bool → Bool → Bool
-caseD arrived ackB ackP = arrived && ackP && not ackB
+abbrev pub caseD : Knows → Bool
+caseD k = k .ackP && not (k .ackB)
 
--- footnote 4: in case (d) p excludes itself, and not b, where p was the previous broadcaster and sent a false ack in that broadcast
-abbrev pub excludesItself : Bool → Bool → Bool → Bool → Bool
-excludesItself arrived ackB ackP sentFalse = caseA arrived ackB ackP || caseB arrived ackB ackP || (caseD arrived ackB ackP && sentFalse)
+-- footnote 4: (d) by a broadcast that arrived, where p was the previous broadcaster and sent a false ack
+abbrev pub caseE : Knows → Bool
+caseE k = k .arrived && caseD k && k .sentFalse
 
-abbrev pub excludesBroadcaster : Bool → Bool → Bool → Bool → Bool
-excludesBroadcaster arrived ackB ackP sentFalse = caseC arrived ackB ackP || (caseD arrived ackB ackP && not sentFalse)
+-- what p does: whether it excludes itself and whether it excludes b, for which causes, and its updated ack
+pub record Does : Type 0 where
+  pub itself : Bool
+  pub broadcaster : Bool
+  pub causes : Removal
+  pub ack : Bool
 
--- updated ack: arrived(b,p) AND (ack(b) OR NOT ack(p))
-abbrev pub updatedAck : Bool → Bool → Bool → Bool
-updatedAck arrived ackB ackP = arrived && (ackB || not ackP)
+-- p is excluded in the cases (a) and (b), and by the footnote; b is excluded in the cases (c) and (d), and not where the footnote excludes p
+abbrev pub does : Knows → Does
+does k = record {
+  itself = caseA k || caseB k || caseE k;
+  broadcaster = caseC k || (caseD k && not (caseE k));
+  causes =
+      cond (caseA k) (Both A C)
+      (cond (caseB k) (Itself B) (cond (caseE k) (Itself E) (cond (caseC k) (Owner C) (cond (caseD k) (Owner D) Nobody))));
+  ack = k .arrived && (k .ackB || not (k .ackP));
+}
 
 -- ---- one processor in one step
 
@@ -72,24 +94,21 @@ pub record Updated : Type 0 where
   pub membership : ℕ → Bool
   pub ack : Bool
 
+abbrev pub knowsIn : Ring → Marks → Bool → ℕ → Knows
+knowsIn r m sentFalse p = record { arrived = arrived r m p; ackB = ack r (broadcaster r); ackP = ack r p; sentFalse = sentFalse }
+
 -- membership: the same but possibly for p and b
-abbrev pub received : Ring → Marks → Bool → ℕ → Updated
-received r m sentFalse p =
-    let b = broadcaster r in
-    let a = arrived r m p in
-    record {
-      membership = λ q.
-          membership r p q
-          && not (eqb q p && excludesItself a (ack r b) (ack r p) sentFalse)
-          && not (eqb q b && excludesBroadcaster a (ack r b) (ack r p) sentFalse);
-      ack = updatedAck a (ack r b) (ack r p);
-    }
+abbrev pub received : Ring → ℕ → Does → Updated
+received r p d = record {
+  membership = λ q. membership r p q && not (eqb q p && d .itself) && not (eqb q (broadcaster r) && d .broadcaster);
+  ack = d .ack;
+}
 
 -- where b is not in p's membership set, none of the local variables are changed; the broadcaster sets its ack to true; any other is updated
 abbrev pub updated : Ring → Marks → Bool → ℕ → Updated
 updated r m sentFalse p =
     cond (membership r p (broadcaster r))
-    (cond (eqb p (broadcaster r)) (record { membership = membership r p; ack = true }) (received r m sentFalse p))
+    (cond (eqb p (broadcaster r)) (record { membership = membership r p; ack = true }) (received r p (does (knowsIn r m sentFalse p))))
     (record { membership = membership r p; ack = ack r p })
 
 -- ---- what footnote 4 asks p to know
