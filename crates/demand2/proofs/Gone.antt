@@ -1,6 +1,7 @@
 -- What a removal takes from a set: those whom it names and no other, each once. Assumes nothing.
 use mathlib.Core.Path.{_≡_, refl, sym, ap, ap₂, _∙_}
 use mathlib.Core.Bool.{Bool, true, false, not, _&&_, and-not-self, false≢true, true≢false}
+use mathlib.Core.List.{List, [], _∷_}
 use mathlib.Core.Logic.{⊎-elim}
 use Prim.Native.Nat.{ℕ, _+_, _<_}
 use native.Mathlib.Nat.{add-zero, zero-add}
@@ -11,7 +12,7 @@ use borrow.Author.Tests.{eqb-true, eqb-false, eq-eqb}
 use Rattle.lists.proofs.Tests.{both}
 use Rattle.seats.specs.Sets.{hasSeat, withoutSeat, sizeOf}
 use Rattle.seats.proofs.Sets.{without-same, without-other, without-size}
-use Rattle.ring.specs.Table.{decided, gone, goneBy, withoutAll}
+use Rattle.ring.specs.Table.{decided, Gone, gone, goneBy, withoutAll}
 use Rattle.ring.specs.Step.{viewOf, turnOf}
 use Rattle.ring.specs.declared.slot.Seat.{Seat}
 use Rattle.ring.specs.declared.slot.Slot.{Slot}
@@ -114,3 +115,17 @@ turn-left time c p q s =
     (λ h e. sym (ap one (left-same (s .set) q)))
     (λ h n g. gone-left time (s .set) p (c .owner) q n h g (decided (viewOf c p) (s .ack) (s .doubt) .removal))
     (λ h n g. sym (ap one (left-same (s .set) q)))
+
+-- ---- a set never gains a member
+
+all-within : (set q : ℕ) (gs : List Gone) → hasSeat (withoutAll set gs) q ≡ true → hasSeat set q ≡ true
+all-within set q [] h = h
+all-within set q (g ∷ more) h = within set (g .seat) q (all-within (withoutSeat set (g .seat)) q more h)
+
+pub turn-within : (c : Slot) (p q : ℕ) (s : Seat) → hasSeat (turnOf c p s .seat .set) q ≡ true → hasSeat (s .set) q ≡ true
+turn-within c p q s =
+    turn-elim c p s (λ t. hasSeat (t .seat .set) q ≡ true → hasSeat (s .set) q ≡ true)
+    (λ h k. k)
+    (λ h e k. k)
+    (λ h n g. all-within (s .set) q (goneBy p (c .owner) (decided (viewOf c p) (s .ack) (s .doubt) .removal)))
+    (λ h n g k. k)

@@ -7,3 +7,4 @@ pub mod Standing
 pub mod Story
 pub mod Paper
 pub mod Empty
+pub mod Whole

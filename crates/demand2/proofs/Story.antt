@@ -66,7 +66,7 @@ module _ (r : Ring) (c : Slot) (t : List ℕ) (fits : width * (r .records + coun
       let q : r .records + (i - r .records) ≡ i = omega arith in
       sym (entry-within r c t fits (i - r .records) (omega arith)) ∙ ap (entryAt (trailAfter r c t)) q
 
-  story-after : OneStory r c t (ringAfter r c) (trailAfter r c t)
+  pub story-after : OneStory r c t (ringAfter r c) (trailAfter r c t)
   story-after =
       let m = entries-count r c in
       record {

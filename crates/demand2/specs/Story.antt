@@ -16,6 +16,7 @@ use Rattle.ring.specs.declared.table.Cause.{Cause}
 use Rattle.ring.specs.declared.table.Cause.the-variants.{A, C}
 use Rattle.ring.specs.declared.table.Removal.{Removal}
 use Rattle.ring.specs.declared.table.Removal.the-variants.{Itself, Owner, Both}
+use Rattle.steps.specs.Run.{Bench}
 use Rattle.demand2.specs.Records.{Entry, entryAt, passing, tellsOf}
 
 -- q was in the set and is not any more
@@ -58,3 +59,15 @@ pub record OneStory (r : Ring) (c : Slot) (t : List ℕ) (r′ : Ring) (t′ : L
   -- every byte of the trail outside them is as it was
   pub outside : (j : ℕ) → (j < width * r .records) ⊎ (width * r′ .records ≤ j) → getD t′ j 0 ≡ getD t j 0
   pub size : length t′ ≡ length t
+
+-- the whole trail at a moment of a run
+pub record WholeStory (n : ℕ) (b : Bench) : Type 0 where
+  -- q is in p's set, or else exactly one record has that holder and removed seat
+  pub rebuilt : (p q : ℕ) → p < n → q < n
+      → passing (tellsOf p q) 0 (b .ring .records) (b .trail) ≡ cond (hasSeat (seatOf (b .ring) p .set) q) 0 1
+  -- the records are of steps taken
+  pub past : (i : ℕ) → i < b .ring .records → entryAt (b .trail) i .time < b .ring .time
+  -- and stand by time, then holder, and cause a before cause c
+  pub order : (i j : ℕ) → i < j → j < b .ring .records
+      → (entryAt (b .trail) i .time < entryAt (b .trail) j .time)
+      ⊎ ((entryAt (b .trail) i .time ≡ entryAt (b .trail) j .time) × Before (entryAt (b .trail) i) (entryAt (b .trail) j))
