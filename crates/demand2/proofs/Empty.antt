@@ -1,24 +1,31 @@
 -- The five empty programs of document 01 (specs/Empty.antt): none keeps the promise of `step`, not even on the benches of runs.
 use mathlib.Core.Path.{_≡_, refl, sym, ap, _∙_, subst}
-use mathlib.Core.Bool.{true, false}
+use mathlib.Core.Bool.{Bool, true, false, cond}
 use mathlib.Core.List.{[]}
-use Prim.Native.Nat.{_+_, _*_, _^_, _<_}
+use Prim.Native.Nat.{ℕ, _+_, _*_, _^_, _<_}
 use native.Mathlib.Omega.{arith}
-use lib.ListN.{replicate}
+use lib.Dec.{eqb}
+use lib.ListN.{length, replicate}
 use borrow.Author.Tests.{ne-eqb}
-use Rattle.limits.specs.Refusals.{done}
+use Rattle.limits.specs.Refusals.{Told, done, refused}
+use Rattle.limits.specs.declared.Refusal.the-variants.{NotARing, WrongMark, AtTheEnd, NoRoom}
 use Rattle.lists.specs.Counted.{sum}
 use Rattle.seats.specs.Sets.{sizeOf}
 use Rattle.ring.specs.Ring.{seatOf, freshRing, zeroRing, isRing, everySeatStands}
 use Rattle.ring.specs.Step.{turnOf}
-use Rattle.ring.specs.Refusals.{stepTold}
+use Rattle.ring.specs.Refusals.{told, stepTold}
 use Rattle.ring.specs.Promise.{StepPromise, ringOf, trailOf}
 use Rattle.ring.specs.declared.Ring.{Ring}
 use Rattle.ring.specs.declared.Stepped.{Stepped}
+use Rattle.ring.specs.declared.Answer.{Answer}
+use Rattle.ring.specs.declared.Answer.the-variants.{Taken, Refused}
 use Rattle.ring.specs.declared.slot.Seat.{Seat}
 use Rattle.steps.specs.Run.{Marks, Bench, toldOn, stepOn, freshBench, Reached, start, taken}
 use Rattle.steps.proofs.Taken.{not-done}
-use Rattle.demand2.specs.Empty.{Program, on, Keeps, RefusesAll, refuser, Constant, constantly, StandsStill, sleeper, FirstOnly, firstTimer, Invents, inventor}
+use Rattle.demand2.specs.Empty.{Program, given, on, Keeps, RefusesAll, refuser, Constant, constantly, StandsStill, sleeper, FirstOnly, firstTimer, Invents, inventor}
+use Rattle.demand2.specs.Refused.{Answered, not-a-ring, wrong-mark, at-the-end, no-room}
+use Rattle.demand2.specs.Refused as row
+use Rattle.demand2.proofs.Refused.{answers}
 use Rattle.demand2.proofs.Sum.{reached-sum}
 
 -- ---- what is said
@@ -155,4 +162,31 @@ inventor-is = record {
   mask = omega arith;
   taken = refl;
   wrong = λ e. omega arith;
+}
+
+-- ---- and there is a program that keeps the promise, so that the theorems say something
+
+-- an answer in the engine's own type
+answerOf : Told → Answer
+answerOf done = Taken
+answerOf (refused number place) =
+    Refused (cond (eqb number 10) NotARing (cond (eqb number 6) WrongMark (cond (eqb number 9) AtTheEnd NoRoom))) place
+
+answer-told : (r : Ring) (send : Bool) (receive bytes : ℕ) (a : Told) → Answered r send receive bytes a → told (answerOf a) ≡ a
+unfolding answerOf
+answer-told r send receive bytes a (not-a-ring h) = refl
+answer-told r send receive bytes a (wrong-mark v w) = refl
+answer-told r send receive bytes a (at-the-end v w e) = refl
+answer-told r send receive bytes a (no-room v w l k) = refl
+answer-told r send receive bytes a (row.taken v w l k) = refl
+
+keeper : Program
+keeper r send receive t = given (answerOf (stepTold r send receive (length t))) (ringOf r send receive t) (trailOf r send receive t)
+
+keeper-keeps : Keeps keeper
+unfolding keeper
+keeper-keeps n bytes low high small b w m mask = record {
+  answer = answer-told (b .ring) (m .send) (m .receive) (length (b .trail)) _ (answers (b .ring) (m .send) (m .receive) (length (b .trail)));
+  ring = refl;
+  trail = refl;
 }

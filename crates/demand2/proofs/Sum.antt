@@ -34,7 +34,7 @@ use Rattle.demand2.proofs.Refused.{answers}
 
 -- ---- what is said
 
--- for each holder: the size of its set plus the number of its records in the trail is n
+-- for each holder: the size of its set plus the number of its records in the trail is n. And of all together: n times n
 pub record SumIsN (n : ℕ) (b : Bench) : Type 0 where
   pub each : (p : ℕ) → p < n → sizeOf (seatOf (b .ring) p .set) + recordsBy p b ≡ n
   pub total : sum n (λ p. sizeOf (seatOf (b .ring) p .set)) + b .ring .records ≡ n * n

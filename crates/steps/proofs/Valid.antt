@@ -2,7 +2,7 @@
 use mathlib.Core.Path.{_≡_, ap}
 use mathlib.Core.Bool.{true}
 use mathlib.Core.Logic.{⊎-elim}
-use Prim.Native.Nat.{ℕ, _^_, _≤_, _<_}
+use Prim.Native.Nat.{ℕ, _≤_, _<_}
 use native.Mathlib.Nat.{mod-lt}
 use native.Mathlib.Omega.{arith}
 use lib.Dec.{ltb}
@@ -13,20 +13,7 @@ use Rattle.seats.specs.Sets.{fullSet}
 use Rattle.ring.specs.Ring.{seatOf, ownerOf, noSeat, memberStands, absentStands, seatStands, everySeatStands, isRing}
 use Rattle.ring.specs.declared.Ring.{Ring}
 use Rattle.ring.specs.declared.slot.Seat.{Seat}
-
--- a seat below n: no seat n or above in its set, and a first fault only before the time
-pub record Member (n time : ℕ) (s : Seat) : Type 0 where
-  pub inside : s .set < 2 ^ n
-  pub past : s .fault ≤ time
-
--- a ring with no more records than the room
-pub record Valid (r : Ring) (room : ℕ) : Type 0 where
-  pub least : 2 ≤ r .n
-  pub most : r .n ≤ 32
-  pub soon : r .time ≤ 4096
-  pub fits : r .records ≤ room
-  pub member : (p : ℕ) → p < r .n → Member (r .n) (r .time) (seatOf r p)
-  pub absent : (p : ℕ) → r .n ≤ p → p < 32 → seatOf r p ≡ noSeat
+pub use Rattle.steps.specs.Valid.{Member, Valid}
 
 -- ---- one seat
 
