@@ -1,6 +1,6 @@
 -- Demand 1 for a step: each step is answered as document 01's table says, with that answer alone, and a refused one leaves the ring and
 -- every byte of the trail as they came.
-use mathlib.Core.Path.{_≡_, refl, sym, ap, _∙_}
+use mathlib.Core.Path.{_≡_, refl, sym, ap, _∙_, subst}
 use mathlib.Core.Bool.{Bool, true, false, true≢false, false≢true}
 use mathlib.Core.List.{List}
 use mathlib.Core.Logic.{inl, inr, ⊎-elim}
@@ -103,47 +103,7 @@ module _ (r : Ring) (send : Bool) (receive bytes : ℕ) where
   marks-false : r .n ≤ 32 → WrongMark r receive → marksStand (r .n) (slotOf r send receive) ≡ false
   marks-false h w = is-false (marksStand (r .n) (slotOf r send receive)) (λ e. marks-right h e w)
 
-  -- ---- the answer
-
-  by-room : Valid r (roomFor bytes) → (WrongMark r receive → ⊥) → marksStand (r .n) (slotOf r send receive) ≡ true → r .time < 4096
-      → Answered r send receive bytes (stepTold r send receive bytes)
-  unfolding stepTold
-  by-room v w m l =
-      ⊎-elim
-      (λ e.
-      let k = leb-true (r .records + countIn r (slotOf r send receive)) (roomFor bytes) e in
-      rw (valid-ring r (roomFor bytes) v, m, ne-eqb (r .time) 4096 (omega arith), e) (taken v w l (λ n. omega arith)))
-      (λ e.
-      let k = leb-false (r .records + countIn r (slotOf r send receive)) (roomFor bytes) e in
-      rw (valid-ring r (roomFor bytes) v, m, ne-eqb (r .time) 4096 (omega arith), e) (no-room v w l k))
-      (both (leb (r .records + countIn r (slotOf r send receive)) (roomFor bytes)))
-
-  by-time : Valid r (roomFor bytes) → (WrongMark r receive → ⊥) → marksStand (r .n) (slotOf r send receive) ≡ true
-      → Answered r send receive bytes (stepTold r send receive bytes)
-  unfolding stepTold
-  by-time v w m =
-      ⊎-elim
-      (λ e. let q = eqb-true (r .time) 4096 e in rw (valid-ring r (roomFor bytes) v, m, eq-eqb (r .time) 4096 q) (at-the-end v w q))
-      (λ e. let n = eqb-false (r .time) 4096 e in let l = v .soon in by-room v w m (omega arith))
-      (both (eqb (r .time) 4096))
-
-  by-marks : Valid r (roomFor bytes) → Answered r send receive bytes (stepTold r send receive bytes)
-  unfolding stepTold
-  by-marks v =
-      ⊎-elim
-      (λ e. by-time v (marks-right (v .most) e) e)
-      (λ e. let w = marks-wrong (v .most) e in rw (valid-ring r (roomFor bytes) v, marks-false (v .most) w) (wrong-mark v w))
-      (both (marksStand (r .n) (slotOf r send receive)))
-
-  answer : Answered r send receive bytes (stepTold r send receive bytes)
-  unfolding stepTold
-  answer =
-      ⊎-elim
-      (λ e. by-marks (ring-valid r (roomFor bytes) e))
-      (λ e.
-      let n : Valid r (roomFor bytes) → ⊥ = λ v. true≢false (sym (valid-ring r (roomFor bytes) v) ∙ e) in
-      rw (ring-false n) (not-a-ring n))
-      (both (isRing r (roomFor bytes)))
+  -- ---- a row of the table is the answer
 
   only : (a : Told) → Answered r send receive bytes a → a ≡ stepTold r send receive bytes
   unfolding stepTold
@@ -164,6 +124,43 @@ module _ (r : Ring) (send : Bool) (receive bytes : ℕ) where
         ne-eqb (r .time) 4096 (omega arith),
         le-leb (r .records + countIn r (slotOf r send receive)) (roomFor bytes) (omega arith),
       )
+
+  -- ---- and there is a row for every step
+
+  Row : Type 0
+  Row = (a : Told) × Answered r send receive bytes a
+
+  by-time : Valid r (roomFor bytes) → (WrongMark r receive → ⊥) → Row
+  unfolding Row
+  by-time v w =
+      ⊎-elim
+      (λ e. (refused 9 4096, at-the-end v w (eqb-true _ _ e)))
+      (λ e.
+      let n = eqb-false (r .time) 4096 e in
+      let s = v .soon in
+      let l : r .time < 4096 = omega arith in
+      ⊎-elim
+      (λ f. (done, taken v w l (λ k. let h = leb-true (r .records + countIn r (slotOf r send receive)) (roomFor bytes) f in omega arith)))
+      (λ f. (refused 8 (r .time), no-room v w l (leb-false _ _ f)))
+      (both (leb (r .records + countIn r (slotOf r send receive)) (roomFor bytes))))
+      (both (eqb (r .time) 4096))
+
+  by-ring : Row
+  unfolding Row
+  by-ring =
+      ⊎-elim
+      (λ e.
+      let v = ring-valid r (roomFor bytes) e in
+      ⊎-elim
+      (λ f. by-time v (marks-right (v .most) f))
+      (λ f. (refused 6 (r .time), wrong-mark v (marks-wrong (v .most) f)))
+      (both (marksStand (r .n) (slotOf r send receive))))
+      (λ e. (refused 10 0, not-a-ring (λ v. true≢false (sym (valid-ring r (roomFor bytes) v) ∙ e))))
+      (both (isRing r (roomFor bytes)))
+
+  answer : Answered r send receive bytes (stepTold r send receive bytes)
+  unfolding Row
+  answer = subst (Answered r send receive bytes) (only (by-ring .0) (by-ring .1)) (by-ring .1)
 
 -- ---- the theorems
 
