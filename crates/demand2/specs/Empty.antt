@@ -1,0 +1,93 @@
+-- The five empty programs of document 01 in the place of `step`: each as a kind of programs, and one of that kind written out.
+use mathlib.Core.Bool.{Bool, cond}
+use mathlib.Core.List.{List}
+use mathlib.Core.Path.{_≡_}
+use Prim.Native.Nat.{ℕ, _+_, _*_, _^_, _≤_, _<_}
+use lib.Dec.{eqb}
+use lib.ListN.{replicate}
+use Rattle.limits.specs.Refusals.{done, refused}
+use Rattle.limits.specs.declared.Refusal.the-variants.{NotARing}
+use Rattle.lists.specs.Counted.{sum}
+use Rattle.seats.specs.Sets.{sizeOf}
+use Rattle.ring.specs.Ring.{seatOf, withCounts, zeroRing}
+use Rattle.ring.specs.Refusals.{told}
+use Rattle.ring.specs.Promise.{StepPromise, ringOf, trailOf}
+use Rattle.ring.specs.declared.Ring.{Ring}
+use Rattle.ring.specs.declared.Stepped.{Stepped}
+use Rattle.ring.specs.declared.Answer.{Answer}
+use Rattle.ring.specs.declared.Answer.the-variants.{Taken, Refused}
+use Rattle.steps.specs.Run.{Marks, Bench, Reached}
+
+-- what a step gives: its answer with the ring, and the trail after it
+pub record Given : Type 0 where
+  pub stepped : Stepped
+  pub trail : List ℕ
+
+abbrev pub given : Answer → Ring → List ℕ → Given
+given a r t = record { stepped = record { answer = a; ring = r }; trail = t }
+
+-- a program in the place of step
+abbrev pub Program : Type 0
+Program = Ring → Bool → ℕ → List ℕ → Given
+
+abbrev pub on : Program → Bench → Marks → Given
+on f b m = f (b .ring) (m .send) (m .receive) (b .trail)
+
+-- it keeps the promise of step at least on each bench of a run from a fresh ring with a cleared buffer of up to 5,120 bytes
+abbrev pub Keeps : Program → Type 0
+Keeps f = (n bytes : ℕ) → 2 ≤ n → n ≤ 32 → bytes ≤ 5120 → (b : Bench) → Reached n (replicate bytes 0) b → (m : Marks) → m .receive < 2 ^ 32
+    → StepPromise (b .ring) (m .send) (m .receive) (b .trail) (on f b m .stepped) (on f b m .trail)
+
+-- ---- 1: it refuses everything
+
+abbrev pub RefusesAll : Program → Type 0
+RefusesAll f = (r : Ring) (send : Bool) (receive : ℕ) (t : List ℕ)
+    → (number : ℕ) × (place : ℕ) × (told (f r send receive t .stepped .answer) ≡ refused number place)
+
+abbrev pub refuser : Program
+refuser r send receive t = given (Refused NotARing 0) r t
+
+-- ---- 2: its result is constant
+
+abbrev pub Constant : Program → Type 0
+Constant f = (s : Stepped) × ((r : Ring) (send : Bool) (receive : ℕ) (t : List ℕ) → f r send receive t .stepped ≡ s)
+
+abbrev pub constantly : Program
+constantly r send receive t = given Taken zeroRing t
+
+-- ---- 3: it steps without changing anything of any seat, though it may count the time
+
+abbrev pub StandsStill : Program → Type 0
+StandsStill f = (r : Ring) (send : Bool) (receive : ℕ) (t : List ℕ) (p : ℕ) → seatOf (f r send receive t .stepped .ring) p ≡ seatOf r p
+
+abbrev pub sleeper : Program
+sleeper r send receive t = given Taken (withCounts r (r .n) (r .time + 1) (r .records)) t
+
+-- ---- 4: it applies the rules at time 0, and afterwards only advances the time
+
+abbrev pub FirstOnly : Program → Type 0
+FirstOnly f = (r : Ring) (send : Bool) (receive : ℕ) (t : List ℕ) → 0 < r .time → (p : ℕ) → seatOf (f r send receive t .stepped .ring) p ≡ seatOf r p
+
+abbrev pub firstTimer : Program
+firstTimer r send receive t =
+    cond (eqb (r .time) 0) (given Taken (ringOf r send receive t) (trailOf r send receive t)) (sleeper r send receive t)
+
+-- ---- 5: it invents its record count: in some step taken it is not what the sets have lost
+
+pub record Invents (f : Program) : Type 0 where
+  pub n : ℕ
+  pub bytes : ℕ
+  pub low : 2 ≤ n
+  pub high : n ≤ 32
+  pub small : bytes ≤ 5120
+  pub bench : Bench
+  pub run : Reached n (replicate bytes 0) bench
+  pub marks : Marks
+  pub mask : marks .receive < 2 ^ 32
+  pub taken : told (on f bench marks .stepped .answer) ≡ done
+  pub wrong : sum n (λ p. sizeOf (seatOf (on f bench marks .stepped .ring) p .set)) + on f bench marks .stepped .ring .records ≡ n * n → ⊥
+
+abbrev pub inventor : Program
+inventor r send receive t =
+    let r′ = ringOf r send receive t in
+    given Taken (withCounts r′ (r′ .n) (r′ .time) (r′ .records + 1)) (trailOf r send receive t)

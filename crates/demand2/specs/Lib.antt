@@ -1,0 +1,5 @@
+pub mod Refused
+pub mod Records
+pub mod Story
+pub mod Paper
+pub mod Empty

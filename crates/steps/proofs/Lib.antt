@@ -1,0 +1,6 @@
+pub mod Valid
+pub mod Drawn
+pub mod Turn
+pub mod Taken
+pub mod After
+pub mod Reached
