@@ -3,3 +3,5 @@ pub mod NumberLaws
 pub mod LineLaws
 pub mod MarkLaws
 pub mod SheetLaws
+pub mod GoodLaws
+pub mod LengthLaws

@@ -124,13 +124,29 @@ module _ {S : Type 0} (line : ℕ → ℕ → S → Found S) (count start : ℕ)
     unfolding linesAt
     ends h = sym (r .same 0 (let f = r .few in omega arith))
 
--- a section's count is within its limits
-pub section-count : {A : Type 0} (least most : ℕ) (line : ℕ → ℕ → List A → Found (List A)) (none : List A) (s : List ℕ) (at : ℕ) (whole : Section A) (next : ℕ)
-    → sectionAt least most line none s at ≡ found whole next → (least ≤ whole .count) × (whole .count ≤ most)
+-- a section is a count within its limits, and as many lines
+pub record Counted {A : Type 0} (least most : ℕ) (line : ℕ → ℕ → List A → Found (List A)) (none : List A) (s : List ℕ) (at : ℕ) (whole : Section A) (next : ℕ)
+    : Type 0 where
+  pub first : ℕ
+  pub counted : lineAt least most s at ≡ found (whole .count) first
+  pub lines : linesAt line (whole .count) first 0 none ≡ found (whole .entries) next
+  pub low : least ≤ whole .count
+  pub high : whole .count ≤ most
+
+pub section-found : {A : Type 0} (least most : ℕ) (line : ℕ → ℕ → List A → Found (List A)) (none : List A) (s : List ℕ) (at : ℕ) (whole : Section A) (next : ℕ)
+    → sectionAt least most line none s at ≡ found whole next → Counted least most line none s at whole next
 unfolding sectionAt
-section-count least most line none s at whole next e =
+section-found least most line none s at whole next e =
     let p = then-found (lineAt least most s at) (λ count first. entriesAt line none count first) whole next e in
     let q = then-found (linesAt line (p .0) (p .1) 0 none) (λ entries next. found (section (p .0) entries) next) whole next (p .3) in
-    let x : p .0 ≡ whole .count = ap (λ (z : Section _). z .count) (found-value (q .3)) in
+    let v : section (p .0) (q .0) ≡ whole = found-value (q .3) in
+    let n : q .1 ≡ next = found-next (q .3) in
+    let x : p .0 ≡ whole .count = ap (λ (z : Section _). z .count) v in
     let w = line-within least most s at (p .0) (p .1) (p .2) in
-    (omega arith, omega arith)
+    record {
+      first = p .1;
+      counted = p .2 ∙ ap (λ (c : ℕ). found c (p .1)) x;
+      lines = ap (λ (c : ℕ). linesAt line c (p .1) 0 none) (sym x) ∙ q .2 ∙ ap (λ (z : Section _). found (z .entries) (q .1)) v ∙ ap (λ (m : ℕ). found (whole .entries) m) n;
+      low = omega arith;
+      high = omega arith;
+    }

@@ -5,7 +5,7 @@ use native.Mathlib.Omega.{arith}
 use Rattle.sheet.specs.Lines.{section}
 use Rattle.sheet.specs.Sheets.{sheetFrom, sheetIn}
 use Rattle.sheet.specs.Inside.{sectionOf}
-use Rattle.sheet.proofs.LineLaws.{section-count}
+use Rattle.sheet.proofs.LineLaws.{section-found}
 use Rattle.sheet.proofs.SheetLaws.{kept-refused, kept-whole}
 use Rattle.sheet.proofs.read.Statement.{statement}
 use Rattle.sheet.proofs.read.Tie as tie
@@ -23,7 +23,10 @@ enum-known-ring-end-2 : tie.Need-enum-known-ring-end-2
 enum-known-ring-end-2 c = search needs
 
 mark-section-requires : tie.Need-mark-section-requires
-mark-section-requires c κs = omega (arith, section-count 2 32 _ _ _ _ _ _ (sym (c .before .before .before .ring-section .ensures) ∙ ap (sectionOf (c .before .before .before .ring-section .result .list)) (c .before .ring-end2 .given .1)))
+mark-section-requires c κs =
+    let ring = c .before .before .before .ring-section in
+    let g = section-found 2 32 _ _ _ _ _ _ (sym (ring .ensures) ∙ ap (sectionOf (ring .result .list)) (c .before .ring-end2 .given .1)) in
+    (omega arith, g .high)
 
 enum-known-marks-end : tie.Need-enum-known-marks-end
 enum-known-marks-end c = search needs
