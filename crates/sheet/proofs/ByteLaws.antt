@@ -1,6 +1,6 @@
 -- Laws of one byte of a sheet, specs/Bytes.antt, and of its class. Assumes nothing.
 use mathlib.Core.Path.{_≡_, refl, sym, ap, _∙_}
-use mathlib.Core.Bool.{Bool, true, false, cond, not, _||_, true≢false, false≢true}
+use mathlib.Core.Bool.{Bool, true, false, cond, not, _||_, false≢true}
 use mathlib.Core.List.{List}
 use Prim.Native.Nat.{ℕ, _+_, _≤_, _<_}
 use native.Mathlib.Omega.{arith}
@@ -10,7 +10,7 @@ use borrow.Author.Tests.{lt-ltb, le-ltb, ltb-true}
 use Rattle.lists.specs.Counted.{allBelow}
 use Rattle.lists.proofs.Tests.{all-at}
 use Rattle.limits.specs.declared.Refusal.the-variants.{EndsEarly, WrongByte}
-use Rattle.sheet.specs.Found.{Found, found, offence}
+use Rattle.sheet.specs.Found.{found, offence}
 use Rattle.sheet.specs.Bytes.{byteAt}
 use Rattle.sheet.specs.Inside.{classOf, codeOf, canBe}
 use Rattle.sheet.specs.declared.bytes.Class.{Class}

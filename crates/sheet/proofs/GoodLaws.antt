@@ -5,15 +5,14 @@ use mathlib.Core.List.{List}
 use mathlib.Core.Option.{Option, none, some}
 use Prim.Native.Nat.{ℕ, zero, suc, _+_, _-_, _≤_, _<_}
 use native.Mathlib.Omega.{arith}
-use lib.ListN.{length, getD, set}
-use lib.ListN.{getD-replicate}
+use lib.ListN.{length, getD, set, getD-replicate}
 use lib.Dec.{ltb}
 use lib.Seq.{getD-set-other}
 use borrow.Author.Tests.{ltb-false}
 use Rattle.limits.specs.Limits.{seatsLeast, seatsMost, marksMost, slotsMost, moduleMost}
 use Rattle.limits.specs.declared.Refusal.{Refusal}
 use Rattle.limits.specs.declared.Refusal.the-variants.{ModuleTwice, BytesAfter}
-use Rattle.sheet.specs.Found.{Found, found, offence, andThen}
+use Rattle.sheet.specs.Found.{Found, found, offence}
 use Rattle.sheet.specs.Bytes.{byteAt, isHeard}
 use Rattle.sheet.specs.Lines.{ended, lineAt, linesAt, Section, sectionAt, isNew, moduleLine, slotLine}
 use Rattle.sheet.specs.Marks.{noMark, markOffence, onOption, fieldsAt, markLine}

@@ -1,15 +1,14 @@
 -- A good sheet has at most 10,956 bytes. Assumes nothing.
-use mathlib.Core.Path.{_≡_, refl, sym, ap, _∙_}
+use mathlib.Core.Path.{_≡_, refl}
 use mathlib.Core.Bool.{Bool, true, false, cond}
 use mathlib.Core.List.{List}
 use Prim.Native.Nat.{ℕ, zero, suc, _+_, _*_, _-_, _^_, _≤_, _<_}
-use native.Mathlib.Nat.{pow-suc, pow-le-pow-right, mul-suc, add-zero, add-suc}
+use native.Mathlib.Nat.{pow-suc, pow-le-pow-right, mul-suc, add-zero}
 use native.Mathlib.Decide.{decLt}
 use native.Mathlib.Omega.{arith}
 use lib.ListN.{length}
 use lib.Dec.{eqb, lit<}
 use borrow.Author.Tests.{eqb-false}
-use Rattle.limits.specs.declared.Refusal.{Refusal}
 use Rattle.sheet.specs.Found.{Found, found, offence, onFound, andThen}
 use Rattle.sheet.specs.Bytes.{isDigit, isSpace, isLineFeed, byteAt, digitsAt, numberAt}
 use Rattle.sheet.specs.Lines.{endAt, ended, lineAt, linesAt}
@@ -18,7 +17,7 @@ use Rattle.sheet.specs.Sheets.{sheetIn}
 use Rattle.sheet.specs.declared.Sheet.{Sheet}
 use Rattle.sheet.proofs.ByteLaws.{byte-found}
 use Rattle.sheet.proofs.NumberLaws.{digit-range}
-use Rattle.sheet.proofs.LineLaws.{then-found, found-value, found-next, ended-found, line-within, Counted}
+use Rattle.sheet.proofs.LineLaws.{then-found, found-value, found-next, ended-found, line-within}
 use Rattle.sheet.proofs.MarkLaws.{good-within, fields-found}
 use Rattle.sheet.proofs.GoodLaws.{module-found, slot-found, mark-line-found, sheet-found}
 

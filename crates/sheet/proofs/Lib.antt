@@ -5,3 +5,5 @@ pub mod MarkLaws
 pub mod SheetLaws
 pub mod GoodLaws
 pub mod LengthLaws
+pub mod ReaderLaws
+pub mod SightLaws

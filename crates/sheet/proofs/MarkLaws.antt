@@ -1,6 +1,6 @@
 -- Laws of mark lines, specs/Marks.antt. Assumes nothing.
-use mathlib.Core.Path.{_≡_, refl, sym, ap, _∙_}
-use mathlib.Core.Bool.{Bool, true, false, cond, _&&_}
+use mathlib.Core.Path.{_≡_, refl, ap, _∙_}
+use mathlib.Core.Bool.{Bool, true, false, cond}
 use mathlib.Core.List.{List}
 use mathlib.Core.Option.{Option, none, some}
 use Prim.Native.Nat.{ℕ, _<_}
@@ -10,7 +10,7 @@ use borrow.Author.Tests.{ltb-true}
 use Rattle.lists.proofs.Tests.{and-true}
 use Rattle.limits.specs.declared.Refusal.{Refusal}
 use Rattle.limits.specs.declared.Refusal.the-variants.{OutsideLimits, MarkNotAbove, WrongMark}
-use Rattle.sheet.specs.Found.{Found, found, offence, andThen}
+use Rattle.sheet.specs.Found.{found}
 use Rattle.sheet.specs.Bytes.{isKind, byteAt}
 use Rattle.sheet.specs.Lines.{ended}
 use Rattle.sheet.specs.Marks.{mark, markWithin, ascends, allowed, markOffence, spacedAt, fieldsAt}

@@ -1,16 +1,16 @@
 -- The two ways in which the promise of specs/Sheets.antt is kept, and that no two readings keep it. Assumes nothing.
-use mathlib.Core.Path.{_≡_, refl, sym, ap, ap₂, _∙_}
+use mathlib.Core.Path.{_≡_, refl, sym, ap₂, _∙_}
 use mathlib.Core.Bool.{Bool, true, false, cond}
 use mathlib.Core.List.{List}
 use Prim.Native.Nat.{ℕ}
 use native.Mathlib.Omega.{arith}
 use lib.ListN.{length}
 use lib.Dec.{ltb}
-use Rattle.limits.specs.Refusals.{numberOf, Told, done, refused}
+use Rattle.limits.specs.Refusals.{numberOf}
 use Rattle.limits.specs.declared.Refusal.{Refusal}
 use Rattle.limits.specs.declared.Refusal.the-variants.{BytesAfter}
 use Rattle.limits.proofs.Refusals.{one-reason}
-use Rattle.sheet.specs.Found.{Found, found, offence}
+use Rattle.sheet.specs.Found.{found, offence}
 use Rattle.sheet.specs.Sheets.{told, sheetIn, ReadPromise}
 use Rattle.sheet.specs.Inside.{refusedWith, wholeOf}
 use Rattle.sheet.specs.declared.Sheet.{Sheet}

@@ -1,6 +1,6 @@
 -- `read`: the three sections in turn. Assumes nothing.
 use borrow.Author.Needs.{needs}
-use mathlib.Core.Path.{_≡_, sym, ap, _∙_}
+use mathlib.Core.Path.{sym, ap, _∙_}
 use native.Mathlib.Omega.{arith}
 use Rattle.sheet.specs.Lines.{section}
 use Rattle.sheet.specs.Sheets.{sheetFrom, sheetIn}

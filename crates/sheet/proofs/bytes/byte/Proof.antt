@@ -1,6 +1,6 @@
 -- `byte`: the three cases of the definition. Assumes nothing.
 use borrow.Author.Needs.{needs}
-use mathlib.Core.Path.{_≡_, sym, ap, _∙_}
+use mathlib.Core.Path.{sym, _∙_}
 use native.Mathlib.Omega.{arith}
 use Rattle.sheet.proofs.ByteLaws.{byte-here, byte-wrong, byte-ends}
 use Rattle.sheet.proofs.bytes.byte.Statement.{statement}

@@ -1,7 +1,7 @@
 -- `fits`: what is wanted decides, and the class is what the law of all bytes says. Assumes nothing.
 use borrow.Author.Needs.{needs}
 use Prim.Native.Nat.{ℕ, _<_}
-use mathlib.Core.Path.{_≡_, sym, ap, _∙_}
+use mathlib.Core.Path.{_≡_, sym, _∙_}
 use Rattle.sheet.specs.Inside.{classOf, canBe}
 use Rattle.sheet.specs.declared.bytes.Class.{Class}
 use Rattle.sheet.specs.declared.bytes.Want.{Want}

@@ -1,6 +1,6 @@
 -- `line`: a number to the end of its line, and then its limits. Assumes nothing.
 use borrow.Author.Needs.{needs}
-use mathlib.Core.Path.{_≡_, sym, ap, _∙_}
+use mathlib.Core.Path.{_≡_, ap, _∙_}
 use borrow.Author.Tests.{le-leb, lt-leb}
 use Rattle.lists.proofs.Tests.{and-false}
 use Rattle.sheet.specs.Bytes.{numberAt}

@@ -1,6 +1,6 @@
 -- `slot_section`: a count within its limits, and as many lines. Assumes nothing.
 use borrow.Author.Needs.{needs}
-use mathlib.Core.Path.{_≡_, sym, ap, _∙_}
+use mathlib.Core.Path.{sym, ap, _∙_}
 use native.Mathlib.Omega.{arith}
 use Rattle.sheet.specs.Lines.{sectionAt}
 use Rattle.sheet.specs.Inside.{foundOf}
