@@ -1,11 +1,12 @@
--- A good sheet: its three sections, and that the entries past each count are zero. Assumes nothing.
+-- A good sheet taken apart: what each of its lines has on it, its three sections, and which entries its lines change. Assumes nothing.
 use mathlib.Core.Path.{_≡_, refl, sym, ap, _∙_}
 use mathlib.Core.Bool.{Bool, true, false, cond}
 use mathlib.Core.List.{List}
+use mathlib.Core.Logic.{_⊎_, inl, inr, ⊎-elim}
 use mathlib.Core.Option.{Option, none, some}
 use Prim.Native.Nat.{ℕ, zero, suc, _+_, _-_, _≤_, _<_}
 use native.Mathlib.Omega.{arith}
-use lib.ListN.{length, getD, set, getD-replicate}
+use lib.ListN.{length, getD, set}
 use lib.Dec.{ltb}
 use lib.Seq.{getD-set-other}
 use borrow.Author.Tests.{ltb-false}
@@ -129,36 +130,14 @@ module _ {A : Type 0} (d : A) (line : ℕ → ℕ → List A → Found (List A))
   abbrev pub Keeps : Type 0
   Keeps = (at k : ℕ) (before after : List A) (next : ℕ) → line at k before ≡ found after next → (a : A) × (after ≡ set before k a)
 
-  pub lines-past : Keeps → (more at k : ℕ) (before after : List A) (next : ℕ) → linesAt line more at k before ≡ found after next
-      → (i : ℕ) → k + more ≤ i → getD after i d ≡ getD before i d
+  -- so that all entries but theirs stay as they were
+  pub lines-others : Keeps → (more at k : ℕ) (before after : List A) (next : ℕ) → linesAt line more at k before ≡ found after next
+      → (i : ℕ) → (i < k) ⊎ (k + more ≤ i) → getD after i d ≡ getD before i d
   unfolding linesAt
-  lines-past keeps zero at k before after next e i l = ap (λ (x : List A). getD x i d) (sym (found-value e))
-  lines-past keeps (suc more) at k before after next e i l =
+  lines-others keeps zero at k before after next e i l = ap (λ (x : List A). getD x i d) (sym (found-value e))
+  lines-others keeps (suc more) at k before after next e i l =
       let p = then-found (line at k before) (λ entries next. linesAt line more next (k + 1) entries) after next e in
       let q = keeps at k before (p .0) (p .1) (p .2) in
-      lines-past keeps more (p .1) (k + 1) (p .0) after next (p .3) i (omega arith)
+      lines-others keeps more (p .1) (k + 1) (p .0) after next (p .3) i (⊎-elim (λ h. inl (omega arith)) (λ h. inr (omega arith)) l)
       ∙ ap (λ (x : List A). getD x i d) (q .1)
-      ∙ getD-set-other before k i (q .0) d (omega arith)
-
--- in a good sheet the entries past each count are zero
-pub record Past (sheet : Sheet) : Type 0 where
-  pub modules : (i : ℕ) → sheet .n ≤ i → i < 32 → getD (sheet .modules) i 0 ≡ 0
-  pub marks : (i : ℕ) → sheet .«mark_count» ≤ i → i < 256 → getD (sheet .marks) i noMark ≡ noMark
-  pub slots : (i : ℕ) → sheet .«slot_count» ≤ i → i < 4096 → getD (sheet .slots) i 0 ≡ 0
-
-pub past-zero : (s : List ℕ) (sheet : Sheet) (end : ℕ) → sheetIn s ≡ found sheet end → Past sheet
-unfolding noModules noMarks noSlots
-past-zero s sheet end e =
-    let g = sheet-found s sheet end e in
-    rw (g .whole)
-    (record {
-      modules = λ i l m.
-          lines-past 0 (moduleLine s) (λ at k b a n h. let f = module-found s at k b a n h in (f .number, f .kept)) _ _ 0 _ _ _ (g .ring-is .lines) i (omega arith)
-          ∙ getD-replicate 32 i 0 0 m;
-      marks = λ i l m.
-          lines-past noMark (markLine (g .ring .count) s) (λ at k b a n h. let f = mark-line-found (g .ring .count) s at k b a n h in (f .one, f .kept)) _ _ 0 _ _ _ (g .marks-is .lines) i (omega arith)
-          ∙ getD-replicate 256 i noMark noMark m;
-      slots = λ i l m.
-          lines-past 0 (slotLine s) (λ at k b a n h. let f = slot-found s at k b a n h in (f .heard, f .kept)) _ _ 0 _ _ _ (g .slots-is .lines) i (omega arith)
-          ∙ getD-replicate 4096 i 0 0 m;
-    })
+      ∙ getD-set-other before k i (q .0) d (⊎-elim (λ h. omega arith) (λ h. omega arith) l)

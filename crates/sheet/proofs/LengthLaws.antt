@@ -18,7 +18,7 @@ use Rattle.sheet.specs.declared.Sheet.{Sheet}
 use Rattle.sheet.proofs.ByteLaws.{byte-found}
 use Rattle.sheet.proofs.NumberLaws.{digit-range}
 use Rattle.sheet.proofs.LineLaws.{then-found, found-value, found-next, ended-found, line-within}
-use Rattle.sheet.proofs.MarkLaws.{good-within, fields-found}
+use Rattle.sheet.proofs.MarkLaws.{good-mark, fields-found}
 use Rattle.sheet.proofs.GoodLaws.{module-found, slot-found, mark-line-found, sheet-found}
 
 -- ---- numbers: a value says how long its digits are
@@ -126,7 +126,7 @@ longest s sheet end e =
     let m1 = line-short 0 256 s _ _ _ (m .counted) 2 (lit< tt) in
     let m2 = lines-short _ 10 (λ at k b a n q.
     let x = mark-line-found (g .ring .count) s at k b a n q in
-    let w = good-within (g .ring .count) k _ (x .one) (x .good) in
+    let w = good-mark (g .ring .count) k _ (x .one) (x .good) in
     let f = fields-found s at (x .one) n (x .read) in
     let t = spaced-short s at (x .one .time) (f .seatAt) (f .time) 3 (omega arith) in
     let p = spaced-short s (f .seatAt) (x .one .seat) (f .kindAt) (f .seat) 1 (omega arith) in

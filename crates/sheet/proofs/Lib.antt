@@ -4,6 +4,7 @@ pub mod LineLaws
 pub mod MarkLaws
 pub mod SheetLaws
 pub mod GoodLaws
+pub mod FitLaws
 pub mod LengthLaws
 pub mod ReaderLaws
 pub mod SightLaws

@@ -78,8 +78,8 @@ pub kind-small : (b : ℕ) → isKind b ≡ true → b < 256
 kind-small b e = one-of-three b 83 82 68 (omega arith) (omega arith) (omega arith) e
 
 -- a byte alone on its line
-pub mark-found : (can : ℕ → Bool) (s : List ℕ) (at v next : ℕ) → ended s (byteAt can s at) ≡ found v next → can v ≡ true
-mark-found can s at v next e = let p = ended-found s (byteAt can s at) v next e in byte-found can s at v (p .0) (p .2) .passes
+pub lone-found : (can : ℕ → Bool) (s : List ℕ) (at v next : ℕ) → ended s (byteAt can s at) ≡ found v next → can v ≡ true
+lone-found can s at v next e = let p = ended-found s (byteAt can s at) v next e in byte-found can s at v (p .0) (p .2) .passes
 
 -- ---- module numbers that are new
 

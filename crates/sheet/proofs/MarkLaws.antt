@@ -2,32 +2,39 @@
 use mathlib.Core.Path.{_≡_, refl, ap, _∙_}
 use mathlib.Core.Bool.{Bool, true, false, cond}
 use mathlib.Core.List.{List}
-use mathlib.Core.Option.{Option, none, some}
+use mathlib.Core.Option.{none, some}
 use Prim.Native.Nat.{ℕ, _<_}
 use native.Mathlib.Omega.{arith}
 use lib.Dec.{ltb}
 use borrow.Author.Tests.{ltb-true}
 use Rattle.lists.proofs.Tests.{and-true}
-use Rattle.limits.specs.declared.Refusal.{Refusal}
 use Rattle.limits.specs.declared.Refusal.the-variants.{OutsideLimits, MarkNotAbove, WrongMark}
 use Rattle.sheet.specs.Found.{found}
 use Rattle.sheet.specs.Bytes.{isKind, byteAt}
 use Rattle.sheet.specs.Lines.{ended}
 use Rattle.sheet.specs.Marks.{mark, markWithin, ascends, allowed, markOffence, spacedAt, fieldsAt}
 use Rattle.sheet.specs.declared.Mark.{Mark}
-use Rattle.sheet.proofs.LineLaws.{then-found, found-value, found-next, mark-found, kind-small}
+use Rattle.sheet.proofs.LineLaws.{then-found, found-value, found-next}
 
--- a mark without an offence is within its limits
-pub good-within : (n k : ℕ) (last m : Mark) → markOffence n k last m ≡ none → (m .time < 4096) × (m .seat < n)
+-- a mark without an offence keeps to all that a mark must keep to
+pub record Kept (n k : ℕ) (last m : Mark) : Type 0 where
+  pub time : m .time < 4096
+  pub seat : m .seat < n
+  pub above : ascends k last m ≡ true
+  pub allows : allowed n m ≡ true
+
+pub good-mark : (n k : ℕ) (last m : Mark) → markOffence n k last m ≡ none → Kept n k last m
 unfolding markOffence
-good-within n k last m e = go (markWithin n m) refl e
+good-mark n k last m e = go (markWithin n m) (ascends k last m) (allowed n m) refl refl refl e
   where
-    rest : Option Refusal
-    rest = cond (ascends k last m) (cond (allowed n m) none (some WrongMark)) (some MarkNotAbove)
-
-    go : (t : Bool) → markWithin n m ≡ t → cond t rest (some OutsideLimits) ≡ none → (m .time < 4096) × (m .seat < n)
-    go true p h = let b = and-true (ltb (m .time) 4096) (ltb (m .seat) n) p in (ltb-true _ _ (b .0), ltb-true _ _ (b .1))
-    go false p h = let z : _≡_ {A = ℕ} 0 1 = cc in absurd (omega arith)
+    go : (a b c : Bool) → markWithin n m ≡ a → ascends k last m ≡ b → allowed n m ≡ c
+        → cond a (cond b (cond c none (some WrongMark)) (some MarkNotAbove)) (some OutsideLimits) ≡ none → Kept n k last m
+    go true true true p q r h =
+        let b = and-true (ltb (m .time) 4096) (ltb (m .seat) n) p in
+        record { time = ltb-true _ _ (b .0); seat = ltb-true _ _ (b .1); above = q; allows = r }
+    go true true false p q r h = let z : _≡_ {A = ℕ} 0 1 = cc in absurd (omega arith)
+    go true false c p q r h = let z : _≡_ {A = ℕ} 0 1 = cc in absurd (omega arith)
+    go false b c p q r h = let z : _≡_ {A = ℕ} 0 1 = cc in absurd (omega arith)
 
 -- the parts of a mark line
 pub record Fields (s : List ℕ) (at : ℕ) (m : Mark) (next : ℕ) : Type 0 where
@@ -51,6 +58,3 @@ fields-found s at m next e =
       seat = b .2 ∙ ap (λ (m : Mark). found (m .seat) (b .1)) x;
       kind = k .2 ∙ ap (λ (m : Mark). found (m .kind) (k .1)) x ∙ ap (λ (n : ℕ). found (m .kind) n) (found-next (k .3));
     }
-
-pub fields-kind : (s : List ℕ) (at : ℕ) (m : Mark) (next : ℕ) → fieldsAt s at ≡ found m next → m .kind < 256
-fields-kind s at m next e = let f = fields-found s at m next e in kind-small (m .kind) (mark-found isKind s (f .kindAt) (m .kind) next (f .kind))

@@ -7,7 +7,29 @@ use lib.Dec.{ltb, leb, eqb}
 use Rattle.limits.specs.declared.Refusal.the-variants.{EndsEarly, WrongByte}
 use Rattle.sheet.specs.Found.{Found, found, offence, onFound, andThen}
 
--- ASCII: the digits are 48 to 57, S is 83, R is 82, D is 68, - is 45
+-- the kinds of marks in ASCII: `S`, `R` and `D`
+abbrev pub send : ℕ
+send = 83
+
+abbrev pub receive : ℕ
+receive = 82
+
+abbrev pub dark : ℕ
+dark = 68
+
+-- what the bus recorder heard: `1`, `0`, and `-` for silence
+abbrev pub heardOne : ℕ
+heardOne = 49
+
+abbrev pub heardZero : ℕ
+heardZero = 48
+
+abbrev pub heardSilence : ℕ
+heardSilence = 45
+
+-- ---- which byte may stand where
+
+-- `0` to `9`
 abbrev pub isDigit : ℕ → Bool
 isDigit byte = leb 48 byte && leb byte 57
 
@@ -17,19 +39,19 @@ isSpace byte = eqb byte 32
 abbrev pub isLineFeed : ℕ → Bool
 isLineFeed byte = eqb byte 10
 
--- `S`, `R` or `D`
 abbrev pub isKind : ℕ → Bool
-isKind byte = eqb byte 83 || eqb byte 82 || eqb byte 68
+isKind byte = eqb byte send || eqb byte receive || eqb byte dark
 
--- `1`, `0` or `-`
 abbrev pub isHeard : ℕ → Bool
-isHeard byte = eqb byte 49 || eqb byte 48 || eqb byte 45
+isHeard byte = eqb byte heardOne || eqb byte heardZero || eqb byte heardSilence
 
 -- one byte that can stand there. Else the sheet ends where a byte is needed, 1, or the byte cannot stand there, 2
 unfoldable pub byteAt : (ℕ → Bool) → List ℕ → ℕ → Found ℕ
 byteAt can sheet at =
     let byte = getD sheet at 0 in
     cond (ltb at (length sheet)) (cond (can byte) (found byte (at + 1)) (offence WrongByte at)) (offence EndsEarly (length sheet))
+
+-- ---- numbers
 
 -- at most k digits more, after the value so far: what is no digit ends the number, and is not of it
 unfoldable pub digitsAt : ℕ → ℕ → List ℕ → ℕ → Found ℕ

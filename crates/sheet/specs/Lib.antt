@@ -3,4 +3,5 @@ pub mod Bytes
 pub mod Lines
 pub mod Marks
 pub mod Sheets
+pub mod Good
 pub mod Inside

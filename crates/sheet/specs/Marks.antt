@@ -9,7 +9,7 @@ use Rattle.limits.specs.Limits.{slotsMost}
 use Rattle.limits.specs.declared.Refusal.{Refusal}
 use Rattle.limits.specs.declared.Refusal.the-variants.{OutsideLimits, MarkNotAbove, WrongMark}
 use Rattle.sheet.specs.Found.{Found, found, offence, andThen}
-use Rattle.sheet.specs.Bytes.{isSpace, isKind, byteAt, numberAt}
+use Rattle.sheet.specs.Bytes.{send, receive, isSpace, isKind, byteAt, numberAt}
 use Rattle.sheet.specs.Lines.{ended}
 use Rattle.sheet.specs.declared.Mark.{Mark}
 
@@ -33,11 +33,11 @@ above last m = ltb (last .time) (m .time) || (eqb (last .time) (m .time) && ltb 
 abbrev pub ascends : ℕ → Mark → Mark → Bool
 ascends k last m = eqb k 0 || above last m
 
--- S (83) is for the owner of the slot, R (82) for another seat
+-- a send mark is for the owner of the slot, a receive mark for another seat
 abbrev pub allowed : ℕ → Mark → Bool
 allowed n m =
     let isOwner = eqb (m .seat) (m .time % n) in
-    cond (eqb (m .kind) 83) isOwner (cond (eqb (m .kind) 82) (not isOwner) true)
+    cond (eqb (m .kind) send) isOwner (cond (eqb (m .kind) receive) (not isOwner) true)
 
 -- why mark k of a ring of n seats cannot stand after the last one: 3, then 5, then 6
 unfoldable pub markOffence : ℕ → ℕ → Mark → Mark → Option Refusal

@@ -12,21 +12,34 @@ mod modules; // modules.rt: the first section
 mod marks; // marks.rt: the second section
 mod slots; // slots.rt: the third section
 
-// A send (S), receive (R) or dark (D) mark of a seat at a time; the kind is its letter.
+// The kinds of marks.
+pub const SEND: u8 = b'S';
+
+pub const RECEIVE: u8 = b'R';
+
+pub const DARK: u8 = b'D';
+// What the bus recorder heard.
+pub const HEARD_ONE: u8 = b'1';
+
+pub const HEARD_ZERO: u8 = b'0';
+
+pub const HEARD_SILENCE: u8 = b'-';
+
+// A mark of a seat at a time, of one of the kinds.
 pub struct Mark {
     pub time: u16,
     pub seat: u8,
     pub kind: u8,
 }
 
-// A sheet: the module number of each seat, the marks, and what was heard in each slot (`1`, `0` or `-`). Entries past each count are zero.
+// A sheet: the module number of each seat, the marks, and what was heard in each slot. Entries past each count are zero.
 pub struct Sheet {
     pub n: usize,
-    pub modules: [u16; 32],
+    pub modules: [u16; limits::SEATS_MOST],
     pub mark_count: usize,
-    pub marks: [Mark; 256],
+    pub marks: [Mark; limits::MARKS_MOST],
     pub slot_count: usize,
-    pub slots: [u8; 4096],
+    pub slots: [u8; limits::SLOTS_MOST as usize],
 }
 
 pub enum Answer {

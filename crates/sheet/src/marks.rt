@@ -16,7 +16,7 @@ use limits::Refusal;
 
 // A mark line's fields and the place after them, or the offence.
 pub enum Line {
-    Fields(usize, usize, usize, usize),
+    Fields(usize, usize, u8, usize),
     Offence(Refusal, usize),
 }
 
@@ -27,7 +27,7 @@ pub enum Check {
 }
 
 pub struct Marks {
-    pub list: [Mark; 256],
+    pub list: [Mark; limits::MARKS_MOST],
     pub end: Piece,
 }
 
@@ -56,7 +56,7 @@ fn fields(s: &[u8], at: usize) -> Line
             Piece::Offence(why, place) => Line::Offence(why, place),
             Piece::Found(seat, b) => match lines::to_end(s, bytes::byte(s, b, Want::Kind)) {
                 Piece::Offence(why, place) => Line::Offence(why, place),
-                Piece::Found(kind, next) => Line::Fields(time, seat, kind, next),
+                Piece::Found(kind, next) => Line::Fields(time, seat, kind as u8, next),
             },
         },
     }
@@ -81,22 +81,22 @@ fn is_above(k: usize, last: Mark, time: usize, seat: usize) -> bool
 }
 
 // A send mark is for the owner of the slot, and a receive mark is not.
-fn is_allowed(n: usize, time: usize, seat: usize, kind: usize) -> bool
+fn is_allowed(n: usize, time: usize, seat: usize, kind: u8) -> bool
     requires { ⌜ 0 < n ⌝ }
     ensures { λ r. ⌜ r ≡ allowed n (mark time seat kind) ⌝ }
 {
     let owner = time % n;
-    if kind == 83 {
+    if kind == crate::SEND {
         return seat == owner;
     }
-    if kind == 82 {
+    if kind == crate::RECEIVE {
         return seat != owner;
     }
     true
 }
 
 // The first offence of mark k after the last one: 3, then 5, then 6.
-fn first_offence(n: usize, k: usize, last: Mark, time: usize, seat: usize, kind: usize) -> Check
+fn first_offence(n: usize, k: usize, last: Mark, time: usize, seat: usize, kind: u8) -> Check
     requires { ⌜ 0 < n ⌝ }
     ensures { λ r. ⌜ offenceOf r ≡ markOffence n k last (mark time seat kind) ⌝ }
 {
@@ -125,10 +125,10 @@ pub fn no_mark() -> Mark
     }
 }
 
-pub fn no_marks() -> [Mark; 256]
+pub fn no_marks() -> [Mark; limits::MARKS_MOST]
     ensures { λ r. ⌜ r ≡ noMarks ⌝ }
 {
-    [no_mark(); 256]
+    [no_mark(); limits::MARKS_MOST]
 }
 
 // So many mark lines from `start` on, of a ring of n seats.
@@ -159,7 +159,7 @@ fn mark_lines(s: &[u8], start: usize, n: usize, count: usize) -> Marks
                 last = Mark {
                     time: time as u16,
                     seat: seat as u8,
-                    kind: kind as u8,
+                    kind,
                 };
                 list[k] = last;
                 k += 1;

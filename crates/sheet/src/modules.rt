@@ -11,14 +11,14 @@ use limits::Refusal;
 
 // Module numbers; and how many there are with the place after them, or the offence.
 pub struct Modules {
-    pub list: [u16; 32],
+    pub list: [u16; limits::SEATS_MOST],
     pub end: Piece,
 }
 
-pub fn no_modules() -> [u16; 32]
+pub fn no_modules() -> [u16; limits::SEATS_MOST]
     ensures { λ r. ⌜ r ≡ noModules ⌝ }
 {
-    [0u16; 32]
+    [0u16; limits::SEATS_MOST]
 }
 
 // So many module lines from `start` on.

@@ -7,6 +7,9 @@ use crate::bytes;
 use crate::bytes::Piece;
 use crate::bytes::Want;
 
+// The digit 0.
+const ZERO: usize = b'0' as usize;
+
 // The digits from `start` on, at most four, after a first one.
 fn digits(s: &[u8], start: usize, first: usize) -> Piece
     requires { ⌜ first < 10 ⌝ }
@@ -20,7 +23,7 @@ fn digits(s: &[u8], start: usize, first: usize) -> Piece
         let Piece::Found(digit, next) = one else {
             return Piece::Found(value, at);
         };
-        value = value * 10 + (digit - 48);
+        value = value * 10 + (digit - ZERO);
         at = next;
         left -= 1;
     }
@@ -35,8 +38,8 @@ pub fn number(s: &[u8], at: usize) -> Piece
     let Piece::Found(digit, next) = one else {
         return one;
     };
-    if digit == 48 {
+    if digit == ZERO {
         return Piece::Found(0, next);
     }
-    digits(s, next, digit - 48)
+    digits(s, next, digit - ZERO)
 }

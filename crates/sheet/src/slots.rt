@@ -11,14 +11,14 @@ use crate::bytes::Want;
 use crate::lines;
 
 pub struct Slots {
-    pub list: [u8; 4096],
+    pub list: [u8; limits::SLOTS_MOST as usize],
     pub end: Piece,
 }
 
-pub fn no_slots() -> [u8; 4096]
+pub fn no_slots() -> [u8; limits::SLOTS_MOST as usize]
     ensures { λ r. ⌜ r ≡ noSlots ⌝ }
 {
-    [0u8; 4096]
+    [0u8; limits::SLOTS_MOST as usize]
 }
 
 // So many slot lines from `start` on.

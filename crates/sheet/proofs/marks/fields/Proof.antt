@@ -1,6 +1,12 @@
 -- `fields`: time, seat and kind, one after the other. Assumes nothing.
 use borrow.Author.Needs.{needs}
+use mathlib.Core.Path.{_≡_, sym, ap, _∙_}
+use native.Mathlib.Omega.{arith}
+use Rattle.sheet.specs.Bytes.{isKind, byteAt}
+use Rattle.sheet.specs.Lines.{ended}
 use Rattle.sheet.specs.Marks.{fieldsAt}
+use Rattle.sheet.specs.Inside.{foundOf}
+use Rattle.sheet.proofs.LineLaws.{kind-small, lone-found}
 use Rattle.sheet.proofs.marks.fields.Statement.{statement}
 use Rattle.sheet.proofs.marks.fields.Tie as tie
 
@@ -34,6 +40,13 @@ enum-known-why-3 c = search needs
 enum-known-kind : tie.Need-enum-known-kind
 enum-known-kind c = search needs
 
+cast-t23 : tie.Need-cast-t23
+cast-t23 c =
+    let k = c .before .kind .given .0 .0 in
+    let s = c .before .before .before .before .before .before .before .before .before .before .before .before .before .before .args .s .now in
+    let read : foundOf (c .before .before .before .to-end .result) ≡ ended s (byteAt isKind s (c .before .before .before .before .before .before .seat .given .0 .1 .0)) = c .before .before .before .to-end .ensures ∙ ap (ended s) (c .before .before .before .before .byte .ensures) in
+    omega (arith, kind-small k (lone-found isKind _ _ k _ (sym read ∙ ap foundOf (c .before .kind .given .1))))
+
 returns : tie.Need-returns
 unfolding fieldsAt
 returns c = rw (← c .before .before .before .spaced .ensures, c .before .why .given .1)
@@ -64,6 +77,7 @@ fields-spec =
     to-end-requires
     enum-known-why-3
     enum-known-kind
+    cast-t23
     returns
     returns-2
     returns-3

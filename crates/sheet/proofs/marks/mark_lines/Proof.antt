@@ -7,9 +7,9 @@ use lib.ListN.{length, getD, length-set}
 use lib.Seq.{getD-set-same}
 use Rattle.sheet.specs.Marks.{noMark, markLine}
 use Rattle.sheet.specs.Sheets.{noMarks}
-use Rattle.sheet.specs.Inside.{fieldsOf, offenceOf}
+use Rattle.sheet.specs.Inside.{offenceOf}
 use Rattle.sheet.proofs.LineLaws.{Reached, begins, goes-on, stops, ends}
-use Rattle.sheet.proofs.MarkLaws.{good-within, fields-kind}
+use Rattle.sheet.proofs.MarkLaws.{good-mark}
 use Rattle.sheet.proofs.marks.mark_lines.Statement.{statement}
 use Rattle.sheet.proofs.marks.mark_lines.Tie as tie
 
@@ -64,16 +64,15 @@ enum-told c = search needs
 
 -- a mark without an offence is within its limits
 within : (c : tie.After-enum-told Inv-loop μ-loop) → (c .before .before .before .before .time .given .0 .0 < 4096) × (c .before .before .before .before .time .given .0 .1 .0 < c .before .before .before .before .before .before .before .before .before .before .before .before .args .n)
-within c = good-within _ _ _ _ (sym (c .before .before .first-offence .ensures) ∙ ap offenceOf (c .enum-told .given .1))
+within c =
+    let g = good-mark _ _ _ _ (sym (c .before .before .first-offence .ensures) ∙ ap offenceOf (c .enum-told .given .1)) in
+    (g .time, g .seat)
 
 cast-t24 : tie.Need-cast-t24 Inv-loop μ-loop
 cast-t24 c = omega (arith, within c)
 
 cast-t25 : tie.Need-cast-t25 Inv-loop μ-loop
 cast-t25 c = omega (arith, within c)
-
-cast-t26 : tie.Need-cast-t26 Inv-loop μ-loop
-cast-t26 c = omega (arith, fields-kind _ _ _ _ (sym (c .before .before .before .before .before .before .fields .ensures) ∙ ap fieldsOf (c .before .before .before .before .time .given .1)))
 
 mul-list : tie.Need-mul-list Inv-loop μ-loop
 mul-list c = search needs
@@ -120,7 +119,6 @@ mark-lines-spec =
     enum-told
     cast-t24
     cast-t25
-    cast-t26
     mul-list
     array-set-from-list
     add-k

@@ -7,7 +7,7 @@ use Rattle.sheet.specs.Bytes.{isHeard, byteAt}
 use Rattle.sheet.specs.Lines.{ended, slotLine}
 use Rattle.sheet.specs.Sheets.{noSlots}
 use Rattle.sheet.specs.Inside.{foundOf}
-use Rattle.sheet.proofs.LineLaws.{heard-small, mark-found, Reached, begins, goes-on, stops, ends}
+use Rattle.sheet.proofs.LineLaws.{heard-small, lone-found, Reached, begins, goes-on, stops, ends}
 use Rattle.sheet.proofs.slots.slot_lines.Statement.{statement}
 use Rattle.sheet.proofs.slots.slot_lines.Tie as tie
 
@@ -48,7 +48,7 @@ returns c =
 cast-list : tie.Need-cast-list Inv-loop μ-loop
 cast-list c =
     let v = c .before .one .given .0 .0 in
-    omega (arith, heard-small v (mark-found isHeard _ _ v _ (sym (read (c .before .before .before)) ∙ ap foundOf (c .before .one .given .1))))
+    omega (arith, heard-small v (lone-found isHeard _ _ v _ (sym (read (c .before .before .before)) ∙ ap foundOf (c .before .one .given .1))))
 
 array-write-list : tie.Need-array-write-list Inv-loop μ-loop
 array-write-list c = search needs
