@@ -1,0 +1,10 @@
+pub mod ByteLaws
+pub mod NumberLaws
+pub mod LineLaws
+pub mod MarkLaws
+pub mod SheetLaws
+pub mod GoodLaws
+pub mod FitLaws
+pub mod LengthLaws
+pub mod ReaderLaws
+pub mod SightLaws

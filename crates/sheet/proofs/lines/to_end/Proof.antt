@@ -1,0 +1,45 @@
+-- `to_end`: what was found, then the end of its line. Assumes nothing.
+use borrow.Author.Needs.{needs}
+use Rattle.sheet.specs.Lines.{ended}
+use Rattle.sheet.proofs.lines.to_end.Statement.{statement}
+use Rattle.sheet.proofs.lines.to_end.Tie as tie
+
+enum-known-last : tie.Need-enum-known-last
+enum-known-last c = search needs
+
+enum-told : tie.Need-enum-told
+enum-told c = search needs
+
+returns : tie.Need-returns
+unfolding ended
+returns c = rw (c .enum-told .given .1)
+
+end-requires : tie.Need-end-requires
+end-requires c κs = search needs
+
+enum-known-stop : tie.Need-enum-known-stop
+enum-known-stop c = search needs
+
+enum-told-2 : tie.Need-enum-told-2
+enum-told-2 c = search needs
+
+returns-2 : tie.Need-returns-2
+unfolding ended
+returns-2 c = rw (c .before .before .before .before .last .given .1, ← c .before .before .end .ensures, c .enum-told2 .given .1)
+
+returns-3 : tie.Need-returns-3
+unfolding ended
+returns-3 c = rw (c .before .before .before .before .before .last .given .1, ← c .before .before .before .end .ensures, c .before .stop .given .1)
+
+pub to-end-spec : {M : Type 1} → statement M
+to-end-spec =
+    tie.close
+    (tie.spec
+    enum-known-last
+    enum-told
+    returns
+    end-requires
+    enum-known-stop
+    enum-told-2
+    returns-2
+    returns-3)

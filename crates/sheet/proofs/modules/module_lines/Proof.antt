@@ -1,0 +1,135 @@
+-- `module_lines`: a line a turn; the search passes numbers that differ, and is left by the label at one that does not. Assumes nothing.
+use borrow.Author.Needs.{needs}
+use Prim.Native.Nat.{ℕ, _-_, _<_, _≤_}
+use mathlib.Core.Path.{_≡_, sym, ap, _∙_}
+use mathlib.Core.Logic.{⊎-elim}
+use native.Mathlib.Omega.{arith}
+use lib.ListN.{getD}
+use borrow.Author.Count.{below-more}
+use Rattle.limits.specs.declared.Refusal.the-variants.{ModuleTwice}
+use Rattle.sheet.specs.Lines.{moduleLine}
+use Rattle.sheet.specs.Sheets.{noModules}
+use Rattle.sheet.specs.Inside.{foundOf}
+use Rattle.sheet.proofs.LineLaws.{line-within, is-new, not-new, Reached, begins, goes-on, stops, ends}
+use Rattle.sheet.proofs.modules.module_lines.Statement.{statement}
+use Rattle.sheet.proofs.modules.module_lines.Tie as tie
+
+abbrev Inv-loop : tie.InvT-loop
+Inv-loop s start count list at k value next number j₀ j = (j ≤ k) × ((i : ℕ) → i < j → getD list i 0 ≡ number → ⊥)
+
+abbrev μ-loop : tie.MeasureT-loop
+μ-loop s start count list at k value next number j₀ j = k - j
+
+abbrev Inv-lines : tie.InvT-lines
+Inv-lines s start count list₀ at₀ k₀ list at k = Reached (moduleLine s) count start noModules at k list
+
+abbrev μ-lines : tie.MeasureT-lines
+μ-lines s start count list₀ at₀ k₀ list at k = count - k
+
+no-modules-requires : tie.Need-no-modules-requires Inv-loop μ-loop Inv-lines μ-lines
+no-modules-requires c κs = search needs
+
+lines-holds : tie.Need-lines-holds Inv-loop μ-loop Inv-lines μ-lines
+lines-holds c = rw (c .no-modules .ensures) (begins _ _ _ _)
+
+cast-line : tie.Need-cast-line Inv-loop μ-loop Inv-lines μ-lines
+cast-line c = search needs
+
+line-requires : tie.Need-line-requires Inv-loop μ-loop Inv-lines μ-lines
+line-requires c κs = search needs
+
+enum-known-one : tie.Need-enum-known-one Inv-loop μ-loop Inv-lines μ-lines
+enum-known-one c = search needs
+
+enum-told : tie.Need-enum-told Inv-loop μ-loop Inv-lines μ-lines
+enum-told c = search needs
+
+returns : tie.Need-returns Inv-loop μ-loop Inv-lines μ-lines
+unfolding moduleLine
+returns c =
+    let g = c .enum-told .given in
+    rw (g .1, stops _ _ _ _ _ _ _ (c .before .before .before .before .lines .inv) (c .before .before .before .lines-test .taken) (g .0 .0) (g .0 .1 .0) (rw (← c .before .before .line .ensures, g .1)))
+
+cast-number : tie.Need-cast-number Inv-loop μ-loop Inv-lines μ-lines
+cast-number c = omega (arith, line-within 1 65535 _ _ _ _ (sym (c .before .before .before .line .ensures) ∙ ap foundOf (c .before .one .given .1)))
+
+loop-holds : tie.Need-loop-holds Inv-loop μ-loop Inv-lines μ-lines
+loop-holds c = search needs
+
+mul-if1 : tie.Need-mul-if1 Inv-loop μ-loop Inv-lines μ-lines
+mul-if1 c = search needs
+
+array-read-if1 : tie.Need-array-read-if1 Inv-loop μ-loop Inv-lines μ-lines
+array-read-if1 c = search needs
+
+add-j : tie.Need-add-j Inv-loop μ-loop Inv-lines μ-lines
+add-j c = search needs
+
+loop-less : tie.Need-loop-less Inv-loop μ-loop Inv-lines μ-lines
+loop-less c = search needs
+
+loop-again : tie.Need-loop-again Inv-loop μ-loop Inv-lines μ-lines
+loop-again c = (omega arith, below-more _ _ (c .before .before .loop .inv .1) (c .if1 .left))
+
+mul-list : tie.Need-mul-list Inv-loop μ-loop Inv-lines μ-lines
+mul-list c = search needs
+
+array-write-list : tie.Need-array-write-list Inv-loop μ-loop Inv-lines μ-lines
+array-write-list c = search needs
+
+add-k : tie.Need-add-k Inv-loop μ-loop Inv-lines μ-lines
+add-k c = search needs
+
+lines-less : tie.Need-lines-less Inv-loop μ-loop Inv-lines μ-lines
+lines-less c = search needs
+
+lines-again : tie.Need-lines-again Inv-loop μ-loop Inv-lines μ-lines
+unfolding moduleLine
+lines-again c =
+    let o = c .before .before .before .before .before .before .before .lines in
+    let u = is-new _ (o .k) (o .list) (λ i h. c .before .loop .inv .1 i (omega arith)) in
+    goes-on _ _ _ _ _ _ _ (o .inv) (c .before .before .before .before .before .before .lines-test .taken) _ _ (rw (← c .before .before .before .before .before .line .ensures, c .before .before .before .one .given .1, u))
+
+returns-2 : tie.Need-returns-2 Inv-loop μ-loop Inv-lines μ-lines
+unfolding moduleLine
+returns-2 c =
+    let o = c .before .before .lines in
+    ⊎-elim
+    (λ w. absurd (omega arith))
+    (λ w.
+    let u = not-new _ _ (o .list) (w .5 .j) (w .6 .taken) (w .7 .taken) in
+    rw (stops _ _ _ _ _ _ _ (o .inv) (w .0 .taken) ModuleTwice (o .at) (rw (← w .1 .ensures, w .3 .given .1, u))))
+    (c .before .lines-test .came)
+
+returns-3 : tie.Need-returns-3 Inv-loop μ-loop Inv-lines μ-lines
+returns-3 c = rw (ends _ _ _ _ _ _ _ (c .before .before .lines .inv) (c .if2 .left))
+
+pub module-lines-spec : {M : Type 1} → statement M
+module-lines-spec =
+    tie.close
+    (tie.spec
+    Inv-loop
+    μ-loop
+    Inv-lines
+    μ-lines
+    no-modules-requires
+    lines-holds
+    cast-line
+    line-requires
+    enum-known-one
+    enum-told
+    returns
+    cast-number
+    loop-holds
+    mul-if1
+    array-read-if1
+    add-j
+    loop-less
+    loop-again
+    mul-list
+    array-write-list
+    add-k
+    lines-less
+    lines-again
+    returns-2
+    returns-3)

@@ -1,0 +1,188 @@
+// The second section: the marks.
+ghost use mathlib.Core.Path.{_≡_};
+ghost use Prim.Native.Nat.{_≤_, _<_};
+ghost use Rattle.limits.specs.Limits.{seatsMost, marksMost};
+ghost use Rattle.sheet.specs.Lines.{entriesAt, sectionAt};
+ghost use Rattle.sheet.specs.Marks.{mark, noMark, ascends, allowed, markOffence, spacedAt, fieldsAt, markLine};
+ghost use Rattle.sheet.specs.Sheets.{noMarks};
+ghost use Rattle.sheet.specs.Inside.{foundOf, sectionOf, fieldsOf, offenceOf};
+use crate::Mark;
+use crate::bytes;
+use crate::bytes::Piece;
+use crate::bytes::Want;
+use crate::lines;
+use crate::numbers;
+use limits::Refusal;
+
+// A mark line's fields and the place after them, or the offence.
+pub enum Line {
+    Fields(usize, usize, u8, usize),
+    Offence(Refusal, usize),
+}
+
+// What a mark's values come to.
+pub enum Check {
+    Good,
+    Bad(Refusal),
+}
+
+pub struct Marks {
+    pub list: [Mark; limits::MARKS_MOST],
+    pub end: Piece,
+}
+
+// A number and one space.
+fn spaced(s: &[u8], at: usize) -> Piece
+    ensures { λ r. ⌜ foundOf r ≡ spacedAt (now (s .entry)) at ⌝ }
+{
+    let one = numbers::number(s, at);
+    let Piece::Found(value, end) = one else {
+        return one;
+    };
+    let space = bytes::byte(s, end, Want::Space);
+    let Piece::Found(_, next) = space else {
+        return space;
+    };
+    Piece::Found(value, next)
+}
+
+// `time seat kind`, to the line's end.
+fn fields(s: &[u8], at: usize) -> Line
+    ensures { λ r. ⌜ fieldsOf r ≡ fieldsAt (now (s .entry)) at ⌝ }
+{
+    match spaced(s, at) {
+        Piece::Offence(why, place) => Line::Offence(why, place),
+        Piece::Found(time, a) => match spaced(s, a) {
+            Piece::Offence(why, place) => Line::Offence(why, place),
+            Piece::Found(seat, b) => match lines::to_end(s, bytes::byte(s, b, Want::Kind)) {
+                Piece::Offence(why, place) => Line::Offence(why, place),
+                Piece::Found(kind, next) => Line::Fields(time, seat, kind as u8, next),
+            },
+        },
+    }
+}
+
+// Is mark k above the last one, by time, then seat? The first has none before it.
+fn is_above(k: usize, last: Mark, time: usize, seat: usize) -> bool
+    ensures { λ r. ⌜ r ≡ ascends k last (mark time seat 0) ⌝ }
+{
+    let t = last.time as usize;
+    let p = last.seat as usize;
+    if k == 0 {
+        return true;
+    }
+    if t < time {
+        return true;
+    }
+    if time < t {
+        return false;
+    }
+    p < seat
+}
+
+// A send mark is for the owner of the slot, and a receive mark is not.
+fn is_allowed(n: usize, time: usize, seat: usize, kind: u8) -> bool
+    requires { ⌜ 0 < n ⌝ }
+    ensures { λ r. ⌜ r ≡ allowed n (mark time seat kind) ⌝ }
+{
+    let owner = time % n;
+    if kind == crate::SEND {
+        return seat == owner;
+    }
+    if kind == crate::RECEIVE {
+        return seat != owner;
+    }
+    true
+}
+
+// The first offence of mark k after the last one: 3, then 5, then 6.
+fn first_offence(n: usize, k: usize, last: Mark, time: usize, seat: usize, kind: u8) -> Check
+    requires { ⌜ 0 < n ⌝ }
+    ensures { λ r. ⌜ offenceOf r ≡ markOffence n k last (mark time seat kind) ⌝ }
+{
+    if (limits::SLOTS_MOST as usize) <= time {
+        return Check::Bad(Refusal::OutsideLimits);
+    }
+    if n <= seat {
+        return Check::Bad(Refusal::OutsideLimits);
+    }
+    if is_above(k, last, time, seat) {
+        if is_allowed(n, time, seat, kind) {
+            return Check::Good;
+        }
+        return Check::Bad(Refusal::WrongMark);
+    }
+    Check::Bad(Refusal::MarkNotAbove)
+}
+
+pub fn no_mark() -> Mark
+    ensures { λ r. ⌜ r ≡ noMark ⌝ }
+{
+    Mark {
+        time: 0,
+        seat: 0,
+        kind: 0,
+    }
+}
+
+pub fn no_marks() -> [Mark; limits::MARKS_MOST]
+    ensures { λ r. ⌜ r ≡ noMarks ⌝ }
+{
+    [no_mark(); limits::MARKS_MOST]
+}
+
+// So many mark lines from `start` on, of a ring of n seats.
+fn mark_lines(s: &[u8], start: usize, n: usize, count: usize) -> Marks
+    requires { ⌜ (count ≤ marksMost) × (0 < n) × (n ≤ seatsMost) ⌝ }
+    ensures { λ r. ⌜ sectionOf (r .list) (r .end) ≡ entriesAt (markLine n (now (s .entry))) noMarks count start ⌝ }
+{
+    let mut list = no_marks();
+    let mut last = no_mark();
+    let mut at = start;
+    let mut k: usize = 0;
+    while k < count {
+        match fields(s, at) {
+            Line::Offence(why, place) => {
+                return Marks {
+                    list,
+                    end: Piece::Offence(why, place),
+                };
+            }
+            Line::Fields(time, seat, kind, next) => {
+                let verdict = first_offence(n, k, last, time, seat, kind);
+                if let Check::Bad(why) = verdict {
+                    return Marks {
+                        list,
+                        end: Piece::Offence(why, at),
+                    };
+                }
+                last = Mark {
+                    time: time as u16,
+                    seat: seat as u8,
+                    kind,
+                };
+                list[k] = last;
+                k += 1;
+                at = next;
+            }
+        }
+    }
+    Marks {
+        list,
+        end: Piece::Found(count, at),
+    }
+}
+
+pub fn mark_section(s: &[u8], at: usize, n: usize) -> Marks
+    requires { ⌜ (0 < n) × (n ≤ seatsMost) ⌝ }
+    ensures { λ r. ⌜ sectionOf (r .list) (r .end) ≡ sectionAt 0 marksMost (markLine n (now (s .entry))) noMarks (now (s .entry)) at ⌝ }
+{
+    let count = lines::line(s, at, 0, limits::MARKS_MOST);
+    let Piece::Found(m, next) = count else {
+        return Marks {
+            list: no_marks(),
+            end: count,
+        };
+    };
+    mark_lines(s, next, n, m)
+}

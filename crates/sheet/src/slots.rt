@@ -1,0 +1,58 @@
+// The third section: what the bus recorder heard.
+ghost use mathlib.Core.Path.{_≡_};
+ghost use Prim.Native.Nat.{_≤_};
+ghost use Rattle.limits.specs.Limits.{slotsMost};
+ghost use Rattle.sheet.specs.Lines.{entriesAt, sectionAt, slotLine};
+ghost use Rattle.sheet.specs.Sheets.{noSlots};
+ghost use Rattle.sheet.specs.Inside.{sectionOf};
+use crate::bytes;
+use crate::bytes::Piece;
+use crate::bytes::Want;
+use crate::lines;
+
+pub struct Slots {
+    pub list: [u8; limits::SLOTS_MOST as usize],
+    pub end: Piece,
+}
+
+pub fn no_slots() -> [u8; limits::SLOTS_MOST as usize]
+    ensures { λ r. ⌜ r ≡ noSlots ⌝ }
+{
+    [0u8; limits::SLOTS_MOST as usize]
+}
+
+// So many slot lines from `start` on.
+fn slot_lines(s: &[u8], start: usize, count: usize) -> Slots
+    requires { ⌜ count ≤ slotsMost ⌝ }
+    ensures { λ r. ⌜ sectionOf (r .list) (r .end) ≡ entriesAt (slotLine (now (s .entry))) noSlots count start ⌝ }
+{
+    let mut list = no_slots();
+    let mut at = start;
+    let mut k: usize = 0;
+    while k < count {
+        let one = lines::to_end(s, bytes::byte(s, at, Want::Heard));
+        let Piece::Found(heard, next) = one else {
+            return Slots { list, end: one };
+        };
+        list[k] = heard as u8;
+        k += 1;
+        at = next;
+    }
+    Slots {
+        list,
+        end: Piece::Found(count, at),
+    }
+}
+
+pub fn slot_section(s: &[u8], at: usize) -> Slots
+    ensures { λ r. ⌜ sectionOf (r .list) (r .end) ≡ sectionAt 0 slotsMost (slotLine (now (s .entry))) noSlots (now (s .entry)) at ⌝ }
+{
+    let count = lines::line(s, at, 0, limits::SLOTS_MOST as usize);
+    let Piece::Found(h, next) = count else {
+        return Slots {
+            list: no_slots(),
+            end: count,
+        };
+    };
+    slot_lines(s, next, h)
+}
