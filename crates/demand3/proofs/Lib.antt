@@ -1,0 +1,11 @@
+pub mod Slots
+pub mod Model
+pub mod Seat
+pub mod Inv
+pub mod Common
+pub mod Sent
+pub mod Missed
+pub mod Spoken
+pub mod Removed
+pub mod Idle
+pub mod Theorem
