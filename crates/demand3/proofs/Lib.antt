@@ -9,3 +9,5 @@ pub mod Spoken
 pub mod Removed
 pub mod Idle
 pub mod Theorem
+pub mod View
+pub mod Along
