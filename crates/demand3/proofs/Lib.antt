@@ -1,4 +1,5 @@
 pub mod Slots
+pub mod Two
 pub mod Model
 pub mod Seat
 pub mod Inv
@@ -11,3 +12,4 @@ pub mod Idle
 pub mod Theorem
 pub mod View
 pub mod Along
+pub mod Decided
