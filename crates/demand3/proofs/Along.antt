@@ -51,9 +51,9 @@ module _ (n : ℕ) (low : 2 ≤ n) (high : n ≤ 32) where
 -- ---- a run
 
 -- the model's invariant, where the fault terms hold of the ring itself: that they held before is no assumption
-record Follows (b : Bench) : Type 0 where
-  empty : EmptyBeyond (b .ring)
-  kept : Terms (stateOf (b .ring)) → Kept (stateOf (b .ring))
+pub record Follows (b : Bench) : Type 0 where
+  pub empty : EmptyBeyond (b .ring)
+  pub kept : Terms (stateOf (b .ring)) → Kept (stateOf (b .ring))
 
 follows-step : (m : Marks) (b : Bench) → Follows b → Follows (benchAfter m b)
 follows-step m b w = record { empty = empty-after r (m .send) (m .receive) (w .empty); kept = λ t. subst Kept (sym is) (next (subst Terms is t)) }
@@ -71,9 +71,8 @@ follows-step m b w = record { empty = empty-after r (m .send) (m .receive) (w .e
     next t = step-kept given (w .kept (back-terms given t)) t
 
 module _ (n : ℕ) (trail : List ℕ) (low : 2 ≤ n) (high : n ≤ 32) where
-  pub along : {b : Bench} → Reached n trail b → Terms (stateOf (b .ring)) → Kept (stateOf (b .ring))
-  along {b} run =
+  pub along : {b : Bench} → Reached n trail b → Follows b
+  along =
       reached-elim n trail low high Follows
       (record { empty = fresh-empty n; kept = λ t. fresh-kept (stateOf (freshRing n)) (fresh-state n low high) })
       (λ m b s e. follows-step m b)
-      run .kept

@@ -13,3 +13,4 @@ pub mod Theorem
 pub mod View
 pub mod Along
 pub mod Decided
+pub mod Demand
