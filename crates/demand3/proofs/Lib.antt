@@ -13,4 +13,6 @@ pub mod Theorem
 pub mod View
 pub mod Along
 pub mod Decided
+pub mod Read
+pub mod Before
 pub mod Demand

@@ -1,0 +1,85 @@
+-- The fault terms of a ring: what they say of the state that it is read as, and that they held before every step. Assumes nothing.
+use mathlib.Core.List.{List}
+use mathlib.Core.Path.{_≡_, refl, sym, ap, _∙_, subst}
+use Prim.Native.Nat.{ℕ, zero, suc, _+_, _≤_, _<_}
+use native.Mathlib.Omega.{arith}
+use Rattle.limits.specs.Limits.{roomMost}
+use Rattle.limits.specs.Refusals.{done}
+use Rattle.ring.specs.Refusals.{verdictFound, within}
+use Rattle.ring.specs.declared.Ring.{Ring}
+use Rattle.steps.specs.Run.{Marks, Bench, toldOn, stepOn, Reached}
+use Rattle.steps.proofs.Valid.{Valid, valid-ring}
+use Rattle.steps.proofs.Reached.{benchAfter, step-after, reached-stands}
+use Rattle.demand3.specs.Faults.{SoundSeat, FirstFault, Apart, SoundAfter, TermsHold}
+use Rattle.demand3.specs.Verdict.{TermsKept}
+use Rattle.demand3.proofs.Model.{State, Sound, Faulty, Terms}
+use Rattle.demand3.proofs.Seat.{Kind, sound, faulty, kind, stays-faulty}
+use Rattle.demand3.proofs.View.{stateOf, givenOf, state-after}
+use Rattle.demand3.proofs.Along.{along}
+use Rattle.demand3.proofs.Decided.{decides}
+use Rattle.demand3.proofs.Read.{to-sound, from-sound, to-faulty, from-faulty}
+
+-- ---- the fault terms, of the ring and of the state
+
+module _ (r : Ring) (room : ℕ) (v : Valid r room) where
+  -- every first fault is before the time
+  past : {x t : ℕ} → FirstFault r x t → t < r .time
+  past {x} y = omega (arith, y .since, v .member x (y .seat) .past)
+
+  clean : (p : ℕ) → p < r .n → ((f : ℕ) → FirstFault r p f → ⊥) → SoundSeat r p
+  clean p h none = from-sound r (go (kind (stateOf r) p h))
+    where
+      go : Kind (stateOf r) p → Sound (stateOf r) p
+      go (sound s) = s
+      go (faulty f y) = absurd (none f (from-faulty r y))
+
+  pub one-of : TermsKept r → (p : ℕ) × SoundSeat r p
+  one-of w = go (r .time) refl
+    where
+      go : (k : ℕ) → r .time ≡ k → (p : ℕ) × SoundSeat r p
+      go zero e = (0, clean 0 (omega (arith, v .least)) (λ f y. omega (arith, past y)))
+      go (suc k) e =
+          let s : SoundAfter r k (w k (omega arith) .sound .one) = w k (omega arith) .sound .one-sound in
+          (w k (omega arith) .sound .one, clean _ (s .seat) (λ f y. omega (arith, past y, s .later y)))
+
+  pub apart-of : TermsKept r → Apart (r .n + 1) r (r .time)
+  apart-of w = record { spaced = λ {x} {y} {f} {g} fx fy ne l m. w g (past fy) .apart .spaced fx fy ne l (omega arith) }
+
+  pub terms-of : Apart (r .n + 1) r (r .time) → {p : ℕ} → SoundSeat r p → Terms (stateOf r)
+  terms-of w {p} s = record {
+    apart = λ {x} {y} {f} {g} fx fy ne l.
+        omega (arith, w .spaced (from-faulty r fx) (from-faulty r fy) ne l (omega (arith, past (from-faulty r fy))));
+    one = p;
+    one-sound = to-sound r s;
+  }
+
+-- ---- a step before
+
+module _ (n : ℕ) (trail : List ℕ) (low : 2 ≤ n) (high : n ≤ 32) {b : Bench} (run : Reached n trail b) (m : Marks) where
+  -- first faults are never forgotten
+  remembered : {x f : ℕ} → FirstFault (b .ring) x f → FirstFault (benchAfter m b .ring) x f
+  remembered {x} {f} y =
+      let is = state-after (b .ring) (m .send) (m .receive) (along n trail low high run .empty) in
+      from-faulty (benchAfter m b .ring)
+      (subst (λ (s : State). Faulty s x f) (sym is) (stays-faulty (givenOf (b .ring) (m .send) (m .receive)) (to-faulty (b .ring) y)))
+
+  held : (t : ℕ) → TermsHold (benchAfter m b .ring) t → TermsHold (b .ring) t
+  held t w = record {
+    apart = record { spaced = λ fx fy. w .apart .spaced (remembered fx) (remembered fy) };
+    sound = record {
+      one = w .sound .one;
+      other = w .sound .other;
+      differ = w .sound .differ;
+      one-sound = record { seat = w .sound .one-sound .seat; later = λ y. w .sound .one-sound .later (remembered y) };
+      other-sound = record { seat = w .sound .other-sound .seat; later = λ y. w .sound .other-sound .later (remembered y) };
+    };
+  }
+
+  -- a verdict `within` after a step was one before it
+  pub within-before : toldOn m b ≡ done → verdictFound (stepOn m b .ring) ≡ within → verdictFound (b .ring) ≡ within
+  within-before e h =
+      let v = reached-stands n trail low high run .valid in
+      let i : verdictFound (benchAfter m b .ring) ≡ within = ap (λ (c : Bench). verdictFound (c .ring)) (sym (step-after m b e)) ∙ h in
+      decides (b .ring) .kept-within
+      (valid-ring (b .ring) roomMost (record { least = v .least; most = v .most; soon = v .soon; fits = omega (arith, v .fits); member = v .member; absent = v .absent }))
+      (λ t l. held t (decides (benchAfter m b .ring) .within-kept i t (omega arith)))
