@@ -17,7 +17,7 @@ use Rattle.steps.proofs.Drawn.{undrawn-seat}
 use Rattle.steps.proofs.Reached.{fresh-n, fresh-time, fresh-seat, benchAfter, Stands, reached-elim}
 use Rattle.demand3.proofs.Model.{State, Given, Fresh, Terms, step}
 use Rattle.demand3.proofs.Seat.{back-terms}
-use Rattle.demand3.proofs.Theorem.{Kept, fresh-kept, step-kept}
+use Rattle.demand3.proofs.Kept.{Kept, fresh-kept, step-kept}
 use Rattle.demand3.proofs.View.{stateOf, givenOf, EmptyBeyond, empty-after, state-after}
 
 -- ---- a fresh ring

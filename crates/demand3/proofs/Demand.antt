@@ -10,7 +10,7 @@ use Rattle.steps.specs.Run.{Marks, Bench, toldOn, stepOn, freshBench, Reached, 
 use Rattle.steps.proofs.Reached.{reached-stands}
 use Rattle.demand3.specs.Faults.{SoundSeat, Apart}
 use Rattle.demand3.specs.Demand.{Agreement, allTaken, RunWithin, Demand3, HeldBefore}
-use Rattle.demand3.proofs.Theorem.{agrees}
+use Rattle.demand3.proofs.Agrees.{agrees}
 use Rattle.demand3.proofs.View.{stateOf}
 use Rattle.demand3.proofs.Along.{along}
 use Rattle.demand3.proofs.Decided.{decides}

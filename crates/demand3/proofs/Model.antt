@@ -146,4 +146,5 @@ module _ (s : State) where
     pub sound-in : {p q : ℕ} → Sound p → Sound q → set p q ≡ true
     pub one-faulty : {p x y f g : ℕ} → Sound p → Faulty x f → Faulty y g → set p x ≡ true → set p y ≡ true → x ≡ y
     pub removed-by : {p x f : ℕ} → Sound p → Faulty x f → (k : ℕ) → f ≤ k → k < time → k % n ≡ x → set p x ≡ false
+    pub kept-till : {p x f : ℕ} → Sound p → Faulty x f → ((k : ℕ) → f ≤ k → k < time → k % n ≡ x → ⊥) → set p x ≡ true
     pub ended-by : {x f : ℕ} → Faulty x f → f + n ≤ time → (set x x ≡ false) ⊎ ((q : ℕ) → q < n → set x q ≡ eqb q x)

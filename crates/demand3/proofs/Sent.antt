@@ -1,20 +1,20 @@
 -- A first fault by sending: the sound owner is silent, and the sound seats drop it at once. Assumes nothing.
-use Prim.Native.Nat.{ℕ, suc, _<_}
-use mathlib.Core.Path.{_≡_, refl, sym, _∙_}
-use mathlib.Core.Logic.{inl, inr}
 use mathlib.Core.Bool.{true, false, false≢true}
+use mathlib.Core.Logic.{⊎-elim}
+use mathlib.Core.Path.{_≡_, refl, sym, _∙_}
+use Prim.Native.Nat.{ℕ, suc, _<_}
 use native.Mathlib.Omega.{arith}
-use Rattle.demand3.proofs.Slots.{Slot, slot, once}
+use Rattle.demand3.proofs.Slots.{OwnSlot, own-slot, once}
 use Rattle.demand3.proofs.Model.{State, Given, owns, acts, role, arrived, leaves, hold, Sound, Faulty}
 use Rattle.demand3.proofs.Seat.{same?, role-own, role-act, own-set, act-other, act-owner, differ, back-sound}
-use Rattle.demand3.proofs.Inv.{Holds, Ahead, Active, active, Low, Inv}
-use Rattle.demand3.proofs.Common.{Move, o, later, sees, starts, calm, up, was-faulty, first-kin, after-first}
+use Rattle.demand3.proofs.Invariant.{Holds, Ahead, Active, active, Low, Inv}
+use Rattle.demand3.proofs.Moves.{Move, o, later, sees, starts, calm, up, was-faulty, first-kin, after-first}
 
 module _ (m : Move) where
-  open Move m using (given, last, bit, due, inv, terms)
+  open Move m using (given, inv, terms)
   open Given given using (now, send)
-  open State now using (n, time, set, ack)
-  open State (later m) using (set as set′, fault as fault′)
+  open State now using (n, time, set)
+  open State (later m) using (set as set′)
 
   module _ (so : Sound now (o m)) (es : send ≡ true) where
     own : role given (o m) ≡ owns
@@ -48,12 +48,17 @@ module _ (m : Move) where
         friends {q} sq = act-other given p r stays q (λ i. differ new sq (sym i)) ∙ sees m was (back-sound given sq)
 
         others : {x f : ℕ} → Faulty (later m) x f → set′ p x ≡ false
-        others {x} y = elim (same? x (o m)) [ inl i ↦ act-owner given p r (cc silent) x i | inr i ↦ act-other given p r stays x i ∙ inv .holds was .others (was-faulty m (o m) so yo y i) ∙ cc (calm m (o m) so yo) ]
+        others {x} y =
+            ⊎-elim
+            (λ i. act-owner given p r (cc silent) x i)
+            (λ i. act-other given p r stays x i ∙ inv .holds was .others (was-faulty m (o m) so yo y i) ∙ cc (calm m (o m) so yo))
+            (same? x (o m))
 
+    -- the owner itself does not know: all that it has in its set have still to speak
     act : Active (later m) time false false (o m)
     act = record {
       inside = same (o m) ∙ sees m so so;
-      kin = kin;
+      kin = λ u hu e ne. first-kin m (o m) so yo u hu (sym (same u) ∙ e) ne ne;
       opposite = cc own;
       full = λ h {u} su ne. same u ∙ sees m so (back-sound given su);
       past = λ h k lo hi e. once n time k lo hi e;
@@ -62,13 +67,14 @@ module _ (m : Move) where
         same : (q : ℕ) → set′ (o m) q ≡ set (o m) q
         same = own-set given (o m) refl
 
-        kin : (u : ℕ) → u < n → set′ (o m) u ≡ true → (u ≡ o m → ⊥) → Sound (later m) u × Ahead (later m) time u
-        kin u hu e ne = first-kin m (o m) so yo u hu (sym (same u) ∙ e) ne ne
-
     low : Low (later m) (suc time)
     low =
-        let k : Slot n (terms .one) (suc time) = slot n (terms .one) (suc time) (terms .one-sound .seat) in
+        let k : OwnSlot n (terms .one) (suc time) = own-slot n (terms .one) (suc time) (terms .one-sound .seat) in
         record { f = time; k = k .at; is = refl; low = k .low; high = omega (arith, k .high); next = rw (k .owner) (terms .one-sound) }
 
     pub sent : Inv (later m) (suc time) false false
-    sent = after-first m (o m) so yo false false holds (active act (omega (arith, inv .size))) (λ h. absurd (false≢true h)) (λ h. low)
+    sent =
+        after-first m (o m) so yo
+        (record { holds = holds; pend = λ h. absurd (false≢true h); low = λ h. low })
+        (active act (omega (arith, inv .size)))
+        (λ h. refl)

@@ -1,27 +1,28 @@
--- Slot arithmetic: in n times in a row each seat owns exactly one slot. Assumes nothing.
+-- Slot arithmetic: of any n slots in a row each seat owns exactly one. Assumes nothing.
+use mathlib.Core.Logic.{⊎-elim}
+use mathlib.Core.Path.{_≡_, sym, _∙_, ap}
 use Prim.Native.Nat.{ℕ, _+_, _-_, _%_, _≤_, _<_}
-use mathlib.Core.Path.{_≡_, refl, sym, _∙_, ap}
-use mathlib.Core.Logic.{_⊎_, inl, inr}
-use mathlib.Core.Bool.{Bool, true, false}
 use native.Mathlib.Nat.{mod-lt, mod-eq-of-lt, mod-add-mod, add-mod-left, mod-eq-sub-mod, add-mod-right}
 use native.Mathlib.Omega.{arith}
 use lib.Dec.{leb}
 use borrow.Author.Tests.{leb-true, leb-false}
 use Rattle.lists.proofs.Tests.{both}
 
-pub record Slot (n u lo : ℕ) : Type 0 where
+-- a slot of seat u among the n from lo on
+pub record OwnSlot (n u lo : ℕ) : Type 0 where
   pub at : ℕ
   pub low : lo ≤ at
   pub high : at < lo + n
   pub owner : at % n ≡ u
 
-pub slot : (n u lo : ℕ) → u < n → Slot n u lo
-slot n u lo h = elim (both (leb (lo % n) u)) [ inl e ↦ near (leb-true (lo % n) u e) | inr e ↦ far (leb-false (lo % n) u e) ]
+pub own-slot : (n u lo : ℕ) → u < n → OwnSlot n u lo
+own-slot n u lo h =
+    ⊎-elim (λ e. near (leb-true (lo % n) u e)) (λ e. far (leb-false (lo % n) u e)) (both (leb (lo % n) u))
   where
     r : lo % n < n
     r = mod-lt lo (omega arith)
 
-    near : lo % n ≤ u → Slot n u lo
+    near : lo % n ≤ u → OwnSlot n u lo
     near le =
         let e : lo % n + (u - lo % n) ≡ u = omega arith in
         record {
@@ -31,7 +32,7 @@ slot n u lo h = elim (both (leb (lo % n) u)) [ inl e ↦ near (leb-true (lo % n)
           owner = sym (mod-add-mod lo n (u - lo % n)) ∙ ap (λ (k : ℕ). k % n) e ∙ mod-eq-of-lt h;
         }
 
-    far : u < lo % n → Slot n u lo
+    far : u < lo % n → OwnSlot n u lo
     far lt =
         let e : lo % n + ((n - lo % n) + u) ≡ n + u = omega (arith, r) in
         record {
@@ -41,8 +42,13 @@ slot n u lo h = elim (both (leb (lo % n) u)) [ inl e ↦ near (leb-true (lo % n)
           owner = sym (mod-add-mod lo n ((n - lo % n) + u)) ∙ ap (λ (k : ℕ). k % n) e ∙ add-mod-left n u ∙ mod-eq-of-lt h;
         }
 
+-- two slots less than n apart have two owners
 pub once : (n j k : ℕ) → j < k → k < j + n → k % n ≡ j % n → ⊥
-once n j k lo hi same = elim (both (leb n (j % n + (k - j)))) [ inl e ↦ wraps (leb-true n (j % n + (k - j)) e) | inr e ↦ stays (leb-false n (j % n + (k - j)) e) ]
+once n j k lo hi same =
+    ⊎-elim
+    (λ e. wraps (leb-true n (j % n + (k - j)) e))
+    (λ e. stays (leb-false n (j % n + (k - j)) e))
+    (both (leb n (j % n + (k - j))))
   where
     r : j % n < n
     r = mod-lt j (omega arith)

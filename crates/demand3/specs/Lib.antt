@@ -1,3 +1,4 @@
 pub mod Faults
 pub mod Demand
 pub mod Verdict
+pub mod Runs
