@@ -13,8 +13,9 @@ pub mod Kept
 pub mod Agrees
 pub mod View
 pub mod Along
+pub mod Tested
 pub mod Decided
 pub mod Read
 pub mod Before
 pub mod Demand
-pub mod Examples
+pub mod Runs

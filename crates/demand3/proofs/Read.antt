@@ -71,7 +71,7 @@ module _ (r : Ring) where
       one-faulty = λ sp fx fy. a .one-faulty (to-sound sp) (to-faulty fx) (to-faulty fy);
       only-seats = λ sp. inside (sp .seat);
       left-by = λ sp fx. a .removed-by (to-sound sp) (to-faulty fx);
-      in-till = λ sp fx. a .kept-till (to-sound sp) (to-faulty fx);
+      stays-till = λ sp fx. a .kept-till (to-sound sp) (to-faulty fx);
       gone-by = λ {x} fx h. gone x (fx .seat) (a .ended-by (to-faulty fx) h);
     }
       where

@@ -29,7 +29,7 @@ pub record Agreement (r : Ring) : Type 0 where
   pub left-by : {p x t : ℕ} → SoundSeat r p → FirstFault r x t → (k : ℕ) → t ≤ k → k < r .time → k % r .n ≡ x
       → hasSeat (seatOf r p .set) x ≡ false
   -- and not before: with no such slot stepped it is in their sets
-  pub in-till : {p x t : ℕ} → SoundSeat r p → FirstFault r x t → ((k : ℕ) → t ≤ k → k < r .time → k % r .n ≡ x → ⊥)
+  pub stays-till : {p x t : ℕ} → SoundSeat r p → FirstFault r x t → ((k : ℕ) → t ≤ k → k < r .time → k % r .n ≡ x → ⊥)
       → hasSeat (seatOf r p .set) x ≡ true
   -- after slot t + n - 1 it is out of its own set, or its set holds it alone
   pub gone-by : {x t : ℕ} → FirstFault r x t → t + r .n ≤ r .time → (out x (seatOf r x) ≡ true) ⊎ (seatOf r x .set ≡ 2 ^ x)
