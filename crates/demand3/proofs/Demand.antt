@@ -43,7 +43,7 @@ all-taken (m ∷ steps) more b e =
     (rw (k .0) (r .0), r .1)
 
 module _ (n : ℕ) (trail : List ℕ) (low : 2 ≤ n) (high : n ≤ 32) where
-  reached-by : {b : Bench} → Reached n trail b → (steps : List Marks) → allTaken steps b ≡ true → Reached n trail (runOn steps b)
+  pub reached-by : {b : Bench} → Reached n trail b → (steps : List Marks) → allTaken steps b ≡ true → Reached n trail (runOn steps b)
   unfolding runOn
   reached-by run [] e = run
   reached-by {b} run (m ∷ more) e = let k = first-taken m more b e in reached-by (taken run m (k .0)) more (k .1)
@@ -59,9 +59,9 @@ module _ (n : ℕ) (trail : List ℕ) (low : 2 ≤ n) (high : n ≤ 32) where
   -- ---- agreement
 
   -- one sound seat is enough
-  pub one-is-enough : {b : Bench} → Reached n trail b → Apart (b .ring .n + 1) (b .ring) (b .ring .time) → {p : ℕ} → SoundSeat (b .ring) p
+  pub agreement-of : {b : Bench} → Reached n trail b → Apart (b .ring .n + 1) (b .ring) (b .ring .time) → {p : ℕ} → SoundSeat (b .ring) p
       → Agreement (b .ring)
-  one-is-enough {b} run w s =
+  agreement-of {b} run w s =
       let v = reached-stands n trail low high run .valid in
       let t = terms-of (b .ring) _ v w s in
       agreement (b .ring) _ v (agrees (stateOf (b .ring)) (along n trail low high run .kept t) t)
@@ -85,7 +85,7 @@ agreement-at-end n trail steps w =
     let r = runOn steps (freshBench n trail) .ring in
     let v = reached-stands n trail (w .least) (w .most) run .valid in
     let t = decides r .within-kept (w .terms) in
-    one-is-enough n trail (w .least) (w .most) run (apart-of r _ v t) (one-of r _ v t .1)
+    agreement-of n trail (w .least) (w .most) run (apart-of r _ v t) (one-of r _ v t .1)
 
 pub demand3 : Demand3
 demand3 n trail steps more w = agreement-at-end n trail steps (held-before n trail steps more w)

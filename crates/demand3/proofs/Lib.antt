@@ -19,3 +19,6 @@ pub mod Read
 pub mod Before
 pub mod Demand
 pub mod Runs
+pub mod Example
+pub mod Tight
+pub mod Late

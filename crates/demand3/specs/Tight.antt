@@ -1,0 +1,39 @@
+-- That the fault terms are tight in their distance; that of the sound seats one is enough; and that the exception of a seat alone is needed.
+use mathlib.Core.Bool.{true, false}
+use mathlib.Core.List.{List}
+use mathlib.Core.Path.{_≡_}
+use Prim.Native.Nat.{ℕ, _+_, _≤_}
+use Rattle.limits.specs.Limits.{seatsLeast, seatsMost}
+use Rattle.ring.specs.Ring.{seatOf, out}
+use Rattle.steps.specs.Run.{Marks, freshBench, runOn}
+use Rattle.demand3.specs.Faults.{SoundSeat, FirstFault, Apart, TwoSound}
+use Rattle.demand3.specs.Demand.{Agreement, allTaken, RunWithin}
+use Rattle.demand3.specs.Runs.{Run, fourApart, threeApart, alone, seatsIn, stepsOf, trailOfRun, startOf, lastRing}
+
+-- a run, all of its steps taken, whose first faults are n slots apart instead of n + 1, and which ends out of agreement
+pub record Breaks (x : Run) : Type 0 where
+  pub taken : allTaken (stepsOf x) (startOf x) ≡ true
+  pub apart : Apart (lastRing x .n) (lastRing x) (lastRing x .time)
+  pub broken : Agreement (lastRing x) → ⊥
+
+-- one with two sound seats left, and one with one
+pub record Tight : Type 0 where
+  pub two-left : Breaks fourApart
+  pub two-sound : TwoSound (lastRing fourApart) (lastRing fourApart .time)
+  pub one-left : Breaks threeApart
+  pub one-sound : SoundSeat (lastRing threeApart) 1
+  pub no-other : (p : ℕ) → SoundSeat (lastRing threeApart) p → p ≡ 1
+
+-- n + 1 slots apart, a single sound seat is enough
+abbrev pub OneIsEnough : Type 0
+OneIsEnough =
+    (n : ℕ) (trail : List ℕ) (steps : List Marks) → seatsLeast ≤ n → n ≤ seatsMost → allTaken steps (freshBench n trail) ≡ true
+    → let r = runOn steps (freshBench n trail) .ring in
+    Apart (r .n + 1) r (r .time) → (p : ℕ) → SoundSeat r p → Agreement r
+
+-- a run within the terms in which a faulty seat never leaves its own set
+pub record AloneStays : Type 0 where
+  pub within : RunWithin (seatsIn alone) trailOfRun (stepsOf alone)
+  pub fault : FirstFault (lastRing alone) 1 0
+  pub over : 0 + lastRing alone .n ≤ lastRing alone .time
+  pub stays : out 1 (seatOf (lastRing alone) 1) ≡ false
