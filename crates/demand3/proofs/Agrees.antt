@@ -1,5 +1,5 @@
 -- A state of which the invariant and the fault terms hold is in agreement. Assumes nothing.
-use mathlib.Core.Bool.{true, false, _&&_}
+use mathlib.Core.Bool.{true, false}
 use mathlib.Core.Logic.{_⊎_, inl, inr, ⊎-elim}
 use mathlib.Core.Path.{_≡_, sym, _∙_, ap}
 use Prim.Native.Nat.{ℕ, suc, _+_, _%_, _≤_, _<_}
@@ -10,7 +10,7 @@ use Rattle.lists.proofs.Tests.{both, and-true, and-of}
 use Rattle.demand3.proofs.Slots.{OwnSlot, own-slot}
 use Rattle.demand3.proofs.Model.{State, Sound, Faulty, Terms, Agrees}
 use Rattle.demand3.proofs.Seat.{same?, Kind, sound, faulty, kind}
-use Rattle.demand3.proofs.Invariant.{Alone, Latest, gone, alone, active, Pending, Top, Inv}
+use Rattle.demand3.proofs.Invariant.{Alone, Latest, gone, alone, active, Pending, Top}
 use Rattle.demand3.proofs.Kept.{Kept}
 
 module _ (s : State) (w : Kept s) (terms : Terms s) where

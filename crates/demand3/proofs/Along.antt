@@ -1,21 +1,17 @@
 -- Every ring that a run comes to is read as a state of which the model's invariant holds, if the fault terms hold of it. Assumes nothing.
-use mathlib.Core.Bool.{Bool, true, false}
 use mathlib.Core.List.{List}
 use mathlib.Core.Path.{_≡_, refl, sym, ap, _∙_, subst}
 use Prim.Native.Nat.{ℕ, zero, suc, _≤_, _<_}
-use native.Mathlib.Omega.{arith}
 use lib.ListN.{getD, replicate}
-use Rattle.limits.specs.Refusals.{done}
 use Rattle.seats.specs.Sets.{hasSeat}
 use Rattle.seats.proofs.Sets.{full-has}
 use Rattle.ring.specs.Ring.{seatOf, freshSeat, zeroRing, freshRing}
-use Rattle.ring.specs.Step.{slotOf, ringAfter}
 use Rattle.ring.specs.declared.Ring.{Ring}
 use Rattle.ring.specs.declared.slot.Seat.{Seat}
-use Rattle.steps.specs.Run.{Marks, Bench, toldOn, freshBench, Reached}
+use Rattle.steps.specs.Run.{Marks, Bench, Reached}
 use Rattle.steps.proofs.Drawn.{undrawn-seat}
-use Rattle.steps.proofs.Reached.{fresh-n, fresh-time, fresh-seat, benchAfter, Stands, reached-elim}
-use Rattle.demand3.proofs.Model.{State, Given, Fresh, Terms, step}
+use Rattle.steps.proofs.Reached.{fresh-n, fresh-seat, benchAfter, reached-elim}
+use Rattle.demand3.proofs.Model.{Given, Fresh, Terms, step}
 use Rattle.demand3.proofs.Seat.{back-terms}
 use Rattle.demand3.proofs.Kept.{Kept, fresh-kept, step-kept}
 use Rattle.demand3.proofs.View.{stateOf, givenOf, EmptyBeyond, empty-after, state-after}

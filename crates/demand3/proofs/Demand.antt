@@ -1,5 +1,8 @@
 -- Demand 3, over the engine: every run within the fault terms keeps its sound seats in agreement. Assumes nothing.
-use mathlib.Core.Bool.{Bool, true, false, _&&_, false≢true}
+-- The argument: Model has the rules over functions of the seats, Seat what a step does to one of them, Invariant what holds along a run; Moves
+-- and the five kinds of step (Sent, Missed, Spoken, Removed, Idle) keep it, by Kept; Agrees reads agreement off it. View shows that the
+-- engine's step is the model's, and Along follows a run; Tested and Decided are the verdict; Read and Before go back to the ring.
+use mathlib.Core.Bool.{true, false, false≢true}
 use mathlib.Core.List.{List, [], _∷_, _++_}
 use mathlib.Core.Path.{_≡_, refl, sym, ap, _∙_}
 use Prim.Native.Nat.{ℕ, _+_, _≤_}
@@ -26,7 +29,9 @@ is-done (refused number place) e = absurd (false≢true e)
 -- the first step of a list that is taken, and the rest
 first-taken : (m : Marks) (more : List Marks) (b : Bench) → allTaken (m ∷ more) b ≡ true → (toldOn m b ≡ done) × (allTaken more (stepOn m b) ≡ true)
 unfolding allTaken
-first-taken m more b e = let k = and-true (onDone (toldOn m b) true false) (allTaken more (stepOn m b)) e in (is-done (toldOn m b) (k .0), k .1)
+first-taken m more b e =
+    let k = and-true (onDone (toldOn m b) true false) (allTaken more (stepOn m b)) e in
+    (is-done (toldOn m b) (k .0), k .1)
 
 run-on : (steps more : List Marks) (b : Bench) → runOn (steps ++ more) b ≡ runOn more (runOn steps b)
 unfolding runOn
@@ -56,9 +61,7 @@ module _ (n : ℕ) (trail : List ℕ) (low : 2 ≤ n) (high : n ≤ 32) where
       let k = first-taken m more b e in
       within-before n trail low high run m (k .0) (within-since (taken run m (k .0)) more (k .1) h)
 
-  -- ---- agreement
-
-  -- one sound seat is enough
+  -- first faults n + 1 slots apart and one sound seat are enough
   pub agreement-of : {b : Bench} → Reached n trail b → Apart (b .ring .n + 1) (b .ring) (b .ring .time) → {p : ℕ} → SoundSeat (b .ring) p
       → Agreement (b .ring)
   agreement-of {b} run w s =
@@ -66,26 +69,25 @@ module _ (n : ℕ) (trail : List ℕ) (low : 2 ≤ n) (high : n ≤ 32) where
       let t = terms-of (b .ring) _ v w s in
       agreement (b .ring) _ v (agrees (stateOf (b .ring)) (along n trail low high run .kept t) t)
 
+  pub agreement-within : {b : Bench} → Reached n trail b → verdictFound (b .ring) ≡ within → Agreement (b .ring)
+  agreement-within {b} run h =
+      let v = reached-stands n trail low high run .valid in
+      let t = decides (b .ring) .within-kept h in
+      agreement-of run (apart-of (b .ring) _ v t) (one-of (b .ring) _ v t .1)
+
 pub held-before : HeldBefore
 held-before n trail steps more w =
     let k = all-taken steps more (freshBench n trail) (w .taken) in
     let run = reached-by n trail (w .least) (w .most) start steps (k .0) in
+    let whole = ap (λ (b : Bench). verdictFound (b .ring)) (sym (run-on steps more (freshBench n trail))) ∙ w .terms in
     record {
       least = w .least;
       most = w .most;
       taken = k .0;
-      terms = within-since n trail (w .least) (w .most) run more (k .1)
-          (ap (λ (b : Bench). verdictFound (b .ring)) (sym (run-on steps more (freshBench n trail))) ∙ w .terms);
+      terms = within-since n trail (w .least) (w .most) run more (k .1) whole;
     }
 
--- the run up to the moment is within the terms too, so that it is enough to speak of its last ring
-agreement-at-end : (n : ℕ) (trail : List ℕ) (steps : List Marks) → RunWithin n trail steps → Agreement (runOn steps (freshBench n trail) .ring)
-agreement-at-end n trail steps w =
-    let run = reached-by n trail (w .least) (w .most) start steps (w .taken) in
-    let r = runOn steps (freshBench n trail) .ring in
-    let v = reached-stands n trail (w .least) (w .most) run .valid in
-    let t = decides r .within-kept (w .terms) in
-    agreement-of n trail (w .least) (w .most) run (apart-of r _ v t) (one-of r _ v t .1)
-
 pub demand3 : Demand3
-demand3 n trail steps more w = agreement-at-end n trail steps (held-before n trail steps more w)
+demand3 n trail steps more whole =
+    let w = held-before n trail steps more whole in
+    agreement-within n trail (w .least) (w .most) (reached-by n trail (w .least) (w .most) start steps (w .taken)) (w .terms)

@@ -1,10 +1,10 @@
 -- A run with faults meets every hypothesis of demand 3, by computation. Assumes nothing.
-use mathlib.Core.Path.{_≡_, refl, ap}
-use mathlib.Core.List.{List, [], append-nil}
-use Prim.Native.Nat.{ℕ, _+_, _%_}
+use mathlib.Core.Path.{refl, ap}
+use mathlib.Core.List.{[]}
+use Prim.Native.Nat.{ℕ, _%_}
 use native.Mathlib.Omega.{arith}
-use Rattle.demand3.specs.Demand.{Agreement, RunWithin}
-use Rattle.demand3.specs.Runs.{fiveApart, beforeOwn, stepsOf, seatsIn, trailOfRun, lastRing}
+use Rattle.demand3.specs.Demand.{RunWithin}
+use Rattle.demand3.specs.Runs.{fiveApart, beforeOwn, stepsOf, seatsIn, trailOfRun}
 use Rattle.demand3.specs.Example.{Example}
 use Rattle.demand3.proofs.Demand.{demand3}
 use Rattle.demand3.proofs.Runs.{is-n, is-time, is-sound, is-fault, is-in, is-within}

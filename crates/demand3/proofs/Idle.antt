@@ -2,7 +2,7 @@
 use mathlib.Core.Bool.{true, false, _&&_, false≢true}
 use mathlib.Core.Logic.{⊎-elim}
 use mathlib.Core.Path.{_≡_, refl, sym, _∙_, ap}
-use Prim.Native.Nat.{ℕ, suc, _+_, _%_, _<_}
+use Prim.Native.Nat.{ℕ, suc, _%_}
 use native.Mathlib.Omega.{arith}
 use lib.Dec.{eqb}
 use borrow.Author.Tests.{eq-eqb}
@@ -11,7 +11,7 @@ use Rattle.demand3.proofs.Model.{State, Given, hold, Sound, Faulty}
 use Rattle.demand3.proofs.Seat.{same?, role-blind, Still, still, differ, back-sound}
 use Rattle.demand3.proofs.Invariant.{Holds, Active, Latest, gone, alone, active, Pending, Low, Inv, soon}
 use Rattle.demand3.proofs.Moves.{Move, o, later, slot-seat, back-faulty, keeps-sound, out-step, alone-step, alone-ack, passed-step}
-use Rattle.demand3.proofs.Moves.{Carried, carry, pending-step, after-quiet}
+use Rattle.demand3.proofs.Moves.{carry, pending-step, after-quiet}
 
 module _ (m : Move) where
   open Move m using (given, last, bit, due, inv)

@@ -1,15 +1,11 @@
 -- How late a removal can be: at most n - 1 slots, and in some runs exactly that. Assumes nothing.
-use mathlib.Core.Bool.{true}
 use mathlib.Core.Logic.{⊎-elim}
-use mathlib.Core.Path.{_≡_, refl, sym, ap, _∙_}
-use Prim.Native.Nat.{ℕ, _+_, _%_, _≤_, _<_}
+use mathlib.Core.Path.{_≡_, refl, sym, _∙_}
+use Prim.Native.Nat.{ℕ, _%_, _≤_, _<_}
 use native.Mathlib.Omega.{arith}
 use lib.Dec.{leb}
-use borrow.Author.Tests.{leb-true, leb-false, le-leb, lt-leb}
+use borrow.Author.Tests.{leb-true, leb-false}
 use Rattle.lists.proofs.Tests.{both}
-use Rattle.ring.specs.declared.Ring.{Ring}
-use Rattle.demand3.specs.Faults.{SoundSeat, FirstFault}
-use Rattle.demand3.specs.Demand.{Agreement}
 use Rattle.demand3.specs.Runs.{beforeOwn, afterOwn, beforeOut, afterOut}
 use Rattle.demand3.specs.Late.{RemovedInOwnSlot, LateAtMost, Latest}
 use Rattle.demand3.proofs.Slots.{own-slot, once}

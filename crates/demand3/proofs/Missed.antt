@@ -10,7 +10,8 @@ use Rattle.lists.proofs.Tests.{both}
 use Rattle.demand3.proofs.Model.{State, Given, acts, role, arrived, leaves, hold, Sound, Faulty}
 use Rattle.demand3.proofs.Seat.{same?, role-act, act-other, act-owner, differ, back-sound}
 use Rattle.demand3.proofs.Invariant.{Holds, Active, active, Pending, Inv}
-use Rattle.demand3.proofs.Moves.{Move, o, later, sees, Hears, hears, role-sound, starts, calm, up, unmarked, still-sound, was-faulty, first-kin, after-first}
+use Rattle.demand3.proofs.Moves.{Move, o, later, sees, Hears, hears, role-sound}
+use Rattle.demand3.proofs.Moves.{starts, calm, up, unmarked, still-sound, was-faulty, first-kin, after-first}
 
 module _ (m : Move) where
   open Move m using (given, inv)

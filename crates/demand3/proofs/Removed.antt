@@ -10,7 +10,7 @@ use Rattle.demand3.proofs.Model.{State, Given, acts, role, speaks, arri
 use Rattle.demand3.proofs.Seat.{same?, role-own, role-act, own-set, act-other, act-owner, stays-faulty, differ, back-sound}
 use Rattle.demand3.proofs.Seat.{deaf-stays, deaf-drops, deaf-acks}
 use Rattle.demand3.proofs.Invariant.{Holds, Latest, gone, alone, active, Pending, Low, Inv, soon}
-use Rattle.demand3.proofs.Moves.{Move, o, later, sees, back-faulty, keeps-sound, out-step, alone-step, passed-now, early, Carried, carry, after-quiet}
+use Rattle.demand3.proofs.Moves.{Move, o, later, sees, back-faulty, keeps-sound, out-step, alone-step, passed-now, early, carry, after-quiet}
 
 module _ (m : Move) where
   open Move m using (given, last, bit, due, inv, terms)

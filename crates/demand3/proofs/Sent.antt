@@ -2,12 +2,12 @@
 use mathlib.Core.Bool.{true, false, false≢true}
 use mathlib.Core.Logic.{⊎-elim}
 use mathlib.Core.Path.{_≡_, refl, sym, _∙_}
-use Prim.Native.Nat.{ℕ, suc, _<_}
+use Prim.Native.Nat.{ℕ, suc}
 use native.Mathlib.Omega.{arith}
 use Rattle.demand3.proofs.Slots.{OwnSlot, own-slot, once}
 use Rattle.demand3.proofs.Model.{State, Given, owns, acts, role, arrived, leaves, hold, Sound, Faulty}
 use Rattle.demand3.proofs.Seat.{same?, role-own, role-act, own-set, act-other, act-owner, differ, back-sound}
-use Rattle.demand3.proofs.Invariant.{Holds, Ahead, Active, active, Low, Inv}
+use Rattle.demand3.proofs.Invariant.{Holds, Active, active, Low, Inv}
 use Rattle.demand3.proofs.Moves.{Move, o, later, sees, starts, calm, up, was-faulty, first-kin, after-first}
 
 module _ (m : Move) where

@@ -11,7 +11,7 @@ use Rattle.demand3.proofs.Seat.{same?, role-own, role-act, role-blind, 
 use Rattle.demand3.proofs.Seat.{low-leaves, deaf-stays, deaf-drops, deaf-acks}
 use Rattle.demand3.proofs.Invariant.{Holds, Active, Latest, gone, alone, active, Pending, Inv}
 use Rattle.demand3.proofs.Moves.{Move, o, later, sees, back-faulty, Hears, hears, role-sound, out-step, alone-step, alone-ack, passed-step}
-use Rattle.demand3.proofs.Moves.{Carried, carry, pending-step, after-quiet}
+use Rattle.demand3.proofs.Moves.{carry, pending-step, after-quiet}
 
 module _ (m : Move) where
   open Move m using (given, last, bit, due, inv)

@@ -1,18 +1,16 @@
 -- The fault terms are tight in their distance, one sound seat is enough, and a faulty seat may stay in its own set alone. Assumes nothing.
 use mathlib.Core.Bool.{true, false, not, false≢true}
 use mathlib.Core.Path.{_≡_, refl, sym, ap, _∙_}
-use Prim.Native.Nat.{ℕ, zero, suc, _+_, _≤_, _<_}
+use Prim.Native.Nat.{ℕ, zero, suc}
 use native.Mathlib.Omega.{arith}
-use lib.Dec.{eqb}
 use borrow.Author.Tests.{eqb-true}
-use Rattle.seats.specs.Sets.{hasSeat}
 use Rattle.ring.specs.Ring.{seatOf, sound}
 use Rattle.ring.specs.declared.Ring.{Ring}
 use Rattle.ring.specs.declared.slot.Seat.{Seat}
 use Rattle.steps.specs.Run.{start}
-use Rattle.demand3.specs.Faults.{SoundSeat, FirstFault, SoundAfter}
+use Rattle.demand3.specs.Faults.{SoundSeat, SoundAfter}
 use Rattle.demand3.specs.Demand.{Agreement}
-use Rattle.demand3.specs.Runs.{Run, fourApart, threeApart, alone, lastRing}
+use Rattle.demand3.specs.Runs.{fourApart, threeApart, alone, lastRing}
 use Rattle.demand3.specs.Tight.{Tight, OneIsEnough, AloneStays}
 use Rattle.demand3.proofs.Demand.{reached-by, agreement-of}
 use Rattle.demand3.proofs.Runs.{is-n, is-time, is-taken, is-seat, is-sound, is-fault, is-in, is-apart, is-within}

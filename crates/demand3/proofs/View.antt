@@ -1,14 +1,13 @@
 -- The engine's ring read as a state of the model, and the engine's step as the model's. Assumes nothing.
-use mathlib.Core.Bool.{Bool, true, false, cond, not, _&&_}
-use mathlib.Core.List.{List, [], _∷_}
+use mathlib.Core.Bool.{Bool, true, false, cond, not, _&&_, and-true, and-false, and-comm, Bool·not-not}
 use mathlib.Core.Logic.{⊎-elim}
 use mathlib.Core.Path.{_≡_, refl, sym, ap, _∙_, subst}
-use Prim.Native.Nat.{ℕ, zero, suc, _+_, _≤_, _<_}
+use Prim.Native.Nat.{ℕ, zero, suc, _≤_}
 use native.Mathlib.Numerals.{add-one}
 use native.Mathlib.Omega.{arith}
 use lib.Dec.{eqb, ltb}
 use borrow.Author.Tests.{eq-eqb, ne-eqb, ltb-true, ltb-false}
-use Rattle.lists.proofs.Tests.{both, and-false}
+use Rattle.lists.proofs.Tests.{both}
 use Rattle.seats.specs.Sets.{hasSeat, withoutSeat}
 use Rattle.seats.proofs.Sets.{nobody-in, without-same, without-other}
 use Rattle.ring.specs.Ring.{seatOf}
@@ -23,8 +22,9 @@ use Rattle.ring.specs.declared.table.Removal.{Removal}
 use Rattle.ring.specs.declared.table.Removal.the-variants.{Nobody, Itself, Owner, Both}
 use Rattle.steps.proofs.Turn.{turn-elim}
 use Rattle.steps.proofs.After.{seat-after, seat-beyond}
-use Rattle.demand3.proofs.Model.{State, Given, owns, acts, rests, selfGone, ownerGone, newAck, first, role, speaks, arrived, leaves, drops, learns, hold, left, step}
-use Rattle.demand3.proofs.Seat.{same?, role-own, role-act, role-out, role-blind, Still, still, own-set}
+use Rattle.demand3.proofs.Model.{State, Given, selfGone, ownerGone, newAck, first, owns, acts, rests, role}
+use Rattle.demand3.proofs.Model.{speaks, leaves, drops, learns, hold, left, step}
+use Rattle.demand3.proofs.Seat.{same?, role-own, role-act, role-out, role-blind, Still, still}
 
 abbrev pub stateOf : Ring → State
 stateOf r = record {
@@ -55,22 +55,18 @@ owners (Itself c) = false
 owners (Owner c) = true
 owners (Both c d) = true
 
-and-yes : (a : Bool) → (a && true) ≡ a
-and-yes true = refl
-and-yes false = refl
-
 without-has : (set j q : ℕ) → hasSeat (withoutSeat set j) q ≡ (hasSeat set q && not (eqb q j))
 without-has set j q =
     ⊎-elim
     (λ e. ap (hasSeat (withoutSeat set j)) e ∙ without-same set j ∙ sym (rw (eq-eqb q j e) (and-false (hasSeat set q))))
-    (λ n. without-other set j q n ∙ sym (rw (ne-eqb q j n) (and-yes (hasSeat set q))))
+    (λ n. without-other set j q n ∙ sym (rw (ne-eqb q j n) (and-true (hasSeat set q))))
     (same? q j)
 
 gone-has : (set p b q : ℕ) (k : Removal)
     → hasSeat (withoutAll set (goneBy p b k)) q ≡ (hasSeat set q && not (itself k && eqb q p) && not (owners k && eqb q b))
-gone-has set p b q Nobody = rw (and-yes (hasSeat set q), and-yes (hasSeat set q))
-gone-has set p b q (Itself c) = without-has set p q ∙ sym (and-yes _)
-gone-has set p b q (Owner c) = without-has set b q ∙ sym (ap (λ (x : Bool). x && not (eqb q b)) (and-yes (hasSeat set q)))
+gone-has set p b q Nobody = rw (and-true (hasSeat set q), and-true (hasSeat set q))
+gone-has set p b q (Itself c) = without-has set p q ∙ sym (and-true _)
+gone-has set p b q (Owner c) = without-has set b q ∙ sym (ap (λ (x : Bool). x && not (eqb q b)) (and-true (hasSeat set q)))
 gone-has set p b q (Both c d) = without-has (withoutSeat set p) b q ∙ ap (λ (x : Bool). x && not (eqb q b)) (without-has set p q)
 
 -- ---- the table
@@ -108,20 +104,10 @@ first-none : (time fault : ℕ) → first false time fault ≡ fault
 first-none time zero = refl
 first-none time (suc f) = refl
 
-not-not : (a : Bool) → not (not a) ≡ a
-not-not true = refl
-not-not false = refl
-
-and-comm : (a b : Bool) → (a && b) ≡ (b && a)
-and-comm true true = refl
-and-comm true false = refl
-and-comm false true = refl
-and-comm false false = refl
-
 -- ---- one seat
 
 -- the seat s is seat p of the model after the step
-record Follows (t : Given) (p : ℕ) (s : Seat) : Type 0 where
+record Matches (t : Given) (p : ℕ) (s : Seat) : Type 0 where
   set : (q : ℕ) → hasSeat (s .set) q ≡ step t .set p q
   ack : s .ack ≡ step t .ack p
   doubt : s .doubt ≡ step t .doubt p
@@ -135,13 +121,13 @@ module _ (r : Ring) (send : Bool) (receive : ℕ) where
   t = givenOf r send receive
 
   speaks-is : slot .speaks ≡ speaks t
-  speaks-is = ap (λ (x : Bool). x && not send) (not-not (hasSeat (seatOf r (slot .owner) .set) (slot .owner)))
+  speaks-is = ap (λ (x : Bool). x && not send) (Bool·not-not (hasSeat (seatOf r (slot .owner) .set) (slot .owner)))
 
   module _ (p : ℕ) where
     abbrev s : Seat
     s = seatOf r p
 
-    stays : role t p ≡ rests → Follows t p s
+    stays : role t p ≡ rests → Matches t p s
     stays e =
         let z : Still t p = still t p e in
         record {
@@ -151,7 +137,7 @@ module _ (r : Ring) (send : Bool) (receive : ℕ) where
           fault = sym (ap (λ (x : Bool). first x (r .time) (s .fault)) (z .hold) ∙ first-none (r .time) (s .fault));
         }
 
-    owning : role t p ≡ owns → Follows t p (ownerTurn slot s .seat)
+    owning : role t p ≡ owns → Matches t p (ownerTurn slot s .seat)
     owning o =
         let h : hold t p ≡ send = cc in
         record {
@@ -171,7 +157,7 @@ module _ (r : Ring) (send : Bool) (receive : ℕ) where
         (selfGone a (slot .bit) (s .ack) (s .doubt), ownerGone a (slot .bit) (s .ack) (s .doubt), newAck a (slot .bit) (s .ack)))
         speaks-is
 
-    acting : role t p ≡ acts → Follows t p (otherTurn slot p s .seat)
+    acting : role t p ≡ acts → Matches t p (otherTurn slot p s .seat)
     acting o =
         let h : hold t p ≡ (hasSeat receive p && speaks t) = cc in
         let k : step t .ack p ≡ learns t p = cc in
@@ -190,9 +176,9 @@ module _ (r : Ring) (send : Bool) (receive : ℕ) where
               (ap (λ (x : Bool). x && hasSeat receive p) speaks-is ∙ and-comm (speaks t) (hasSeat receive p) ∙ sym h);
         }
 
-    follows : Follows t p (turnOf slot p s .seat)
-    follows =
-        turn-elim slot p s (λ u. Follows t p (u .seat))
+    matches : Matches t p (turnOf slot p s .seat)
+    matches =
+        turn-elim slot p s (λ u. Matches t p (u .seat))
         (λ h. stays (role-out t p h))
         (λ h e. owning (role-own t p e h))
         (λ h n g. acting (role-act t p n h g))
@@ -211,24 +197,24 @@ module _ (r : Ring) (send : Bool) (receive : ℕ) (empty : EmptyBeyond r) where
   pub empty-after : EmptyBeyond later
   empty-after p h = ap (λ (s : Seat). s .set) (seat-beyond r (slotOf r send receive) p h) ∙ empty p h
 
-  follows-after : (p : ℕ) → Follows (givenOf r send receive) p (seatOf later p)
-  follows-after p =
+  matches-after : (p : ℕ) → Matches (givenOf r send receive) p (seatOf later p)
+  matches-after p =
       ⊎-elim
       (λ e.
-      subst (Follows (givenOf r send receive) p) (sym (seat-after r (slotOf r send receive) p (ltb-true p (r .n) e)))
-      (follows r send receive p))
+      subst (Matches (givenOf r send receive) p) (sym (seat-after r (slotOf r send receive) p (ltb-true p (r .n) e)))
+      (matches r send receive p))
       (λ e.
       let h = ltb-false p (r .n) e in
       let o = role-out (givenOf r send receive) p (ap (λ (x : ℕ). hasSeat x p) (empty p h) ∙ nobody-in p) in
-      subst (Follows (givenOf r send receive) p) (sym (seat-beyond r (slotOf r send receive) p h)) (stays r send receive p o))
+      subst (Matches (givenOf r send receive) p) (sym (seat-beyond r (slotOf r send receive) p h)) (stays r send receive p o))
       (both (ltb p (r .n)))
 
   pub state-after : stateOf later ≡ step (givenOf r send receive)
   state-after = λ i. record {
     n = r .n;
     time = add-one (r .time) i;
-    set = λ p q. follows-after p .set q i;
-    ack = λ p. follows-after p .ack i;
-    doubt = λ p. follows-after p .doubt i;
-    fault = λ p. follows-after p .fault i;
+    set = λ p q. matches-after p .set q i;
+    ack = λ p. matches-after p .ack i;
+    doubt = λ p. matches-after p .doubt i;
+    fault = λ p. matches-after p .fault i;
   }

@@ -1,7 +1,7 @@
 -- A run with faults that meets every hypothesis of demand 3.
 use mathlib.Core.Bool.{true}
 use mathlib.Core.Path.{_≡_}
-use Prim.Native.Nat.{ℕ, _+_, _%_, _≤_, _<_}
+use Prim.Native.Nat.{_+_, _%_, _≤_}
 use Rattle.seats.specs.Sets.{hasSeat}
 use Rattle.ring.specs.Ring.{seatOf}
 use Rattle.demand3.specs.Faults.{SoundSeat, FirstFault}
