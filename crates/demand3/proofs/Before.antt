@@ -8,7 +8,8 @@ use Rattle.limits.specs.Refusals.{done}
 use Rattle.ring.specs.Refusals.{verdictFound, within}
 use Rattle.ring.specs.declared.Ring.{Ring}
 use Rattle.steps.specs.Run.{Marks, Bench, toldOn, stepOn, Reached}
-use Rattle.steps.proofs.Valid.{Valid, valid-ring}
+use Rattle.steps.specs.Valid.{Valid}
+use Rattle.steps.proofs.Valid.{valid-ring}
 use Rattle.steps.proofs.Reached.{benchAfter, step-after, reached-stands}
 use Rattle.demand3.specs.Faults.{SoundSeat, FirstFault, Apart, SoundAfter, TermsHold}
 use Rattle.demand3.specs.Verdict.{TermsKept}

@@ -10,7 +10,7 @@ use Rattle.demand3.proofs.Demand.{demand3}
 use Rattle.demand3.proofs.Runs.{is-n, is-time, is-sound, is-fault, is-in, is-within}
 
 within : RunWithin (seatsIn fiveApart) trailOfRun (stepsOf fiveApart)
-within = is-within fiveApart (omega arith) (omega arith) refl refl
+within = is-within fiveApart (omega arith) (omega arith) refl
 
 pub example : Example
 example = record {
@@ -22,6 +22,6 @@ example = record {
   own-slot = ap (λ (k : ℕ). 5 % k) (is-n fiveApart);
   over = omega (arith, is-n fiveApart, is-time fiveApart);
   agreement = demand3 (seatsIn fiveApart) trailOfRun (stepsOf fiveApart) [] within;
-  earlier = is-within beforeOwn (omega arith) (omega arith) refl refl;
+  earlier = is-within beforeOwn (omega arith) (omega arith) refl;
   still-in = is-in beforeOwn 0 3 refl;
 }

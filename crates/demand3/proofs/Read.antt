@@ -13,7 +13,7 @@ use Rattle.seats.specs.Sets.{hasSeat}
 use Rattle.seats.proofs.Sets.{nobody-in, same-sets, without-is, without-other}
 use Rattle.ring.specs.Ring.{seatOf, out}
 use Rattle.ring.specs.declared.Ring.{Ring}
-use Rattle.steps.proofs.Valid.{Valid}
+use Rattle.steps.specs.Valid.{Valid}
 use Rattle.demand3.specs.Faults.{SoundSeat, FirstFault}
 use Rattle.demand3.specs.Demand.{Agreement}
 use Rattle.demand3.proofs.Model.{Sound, Faulty, Agrees}
@@ -70,9 +70,9 @@ module _ (r : Ring) where
       sound-in = λ sp sq. a .sound-in (to-sound sp) (to-sound sq);
       one-faulty = λ sp fx fy. a .one-faulty (to-sound sp) (to-faulty fx) (to-faulty fy);
       only-seats = λ sp. inside (sp .seat);
-      left-by = λ sp fx. a .removed-by (to-sound sp) (to-faulty fx);
+      left-by = λ sp fx k low high own. a .removed-by (to-sound sp) (to-faulty fx) k low (omega arith) own;
       stays-till = λ sp fx. a .kept-till (to-sound sp) (to-faulty fx);
-      gone-by = λ {x} fx h. gone x (fx .seat) (a .ended-by (to-faulty fx) h);
+      gone-by = λ {x} fx h. gone x (fx .seat) (a .ended-by (to-faulty fx) (omega arith));
     }
       where
         gone : (x : ℕ) → x < r .n → (hasSeat (seatOf r x .set) x ≡ false) ⊎ ((q : ℕ) → q < r .n → hasSeat (seatOf r x .set) q ≡ eqb q x)

@@ -16,13 +16,13 @@ use Rattle.ring.specs.Promise.{ringOf, trailOf}
 use Rattle.steps.specs.Run.{runOn}
 use Rattle.ring.specs.declared.slot.Seat.{Seat}
 use Rattle.demand3.specs.Faults.{SoundSeat, FirstFault, Apart}
-use Rattle.demand3.specs.Demand.{allTaken, RunWithin}
+use Rattle.demand3.specs.Demand.{RunWithin}
 use Rattle.demand3.specs.Runs.{Run, fiveApart, fourApart, threeApart, alone, beforeOwn, afterOwn, beforeOut, afterOut}
-use Rattle.demand3.specs.Runs.{seatsIn, stepsOf, trailOfRun, startOf, lastRing, Outcome, outcomeOf, stated}
+use Rattle.demand3.specs.Runs.{seatsIn, stepsOf, trailOfRun, lastRing, Outcome, outcomeOf, stated}
 use Rattle.demand3.proofs.Tested.{all-apart}
 
 pub as-stated : (x : Run) → outcomeOf x ≡ stated x
-unfolding outcomeOf allTaken runOn ringOf trailOf stepTold verdictFound firstFailing termsHold turnOf isRing everySeatStands freshRing zeroRing
+unfolding outcomeOf runOn ringOf trailOf stepTold verdictFound firstFailing termsHold turnOf isRing everySeatStands freshRing zeroRing
 as-stated fiveApart = refl
 as-stated fourApart = refl
 as-stated threeApart = refl
@@ -42,10 +42,6 @@ module _ (x : Run) where
   pub is-time : lastRing x .time ≡ stated x .time
   unfolding outcomeOf
   is-time = ap (λ (o : Outcome). o .time) (as-stated x)
-
-  pub is-taken : allTaken (stepsOf x) (startOf x) ≡ stated x .taken
-  unfolding outcomeOf
-  is-taken = ap (λ (o : Outcome). o .taken) (as-stated x)
 
   pub is-found : verdictFound (lastRing x) ≡ stated x .verdict
   unfolding outcomeOf
@@ -74,6 +70,5 @@ module _ (x : Run) where
       let h : lastRing x .n - 1 + 1 ≡ lastRing x .n = omega (arith, is-n) in
       rw h at (all-apart (lastRing x) (lastRing x .time) (lastRing x .n - 1) (ap (λ (o : Outcome). o .nApart) (as-stated x) ∙ e))
 
-  pub is-within : 2 ≤ seatsIn x → seatsIn x ≤ 32 → stated x .taken ≡ true → stated x .verdict ≡ within
-      → RunWithin (seatsIn x) trailOfRun (stepsOf x)
-  is-within low high t v = record { least = low; most = high; taken = is-taken ∙ t; terms = is-found ∙ v }
+  pub is-within : 2 ≤ seatsIn x → seatsIn x ≤ 32 → stated x .verdict ≡ within → RunWithin (seatsIn x) trailOfRun (stepsOf x)
+  is-within low high e = record { least = low; most = high; terms = is-found ∙ e }

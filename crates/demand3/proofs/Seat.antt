@@ -1,17 +1,19 @@
--- What one step does to one seat. Assumes nothing.
-use Prim.Native.Nat.{ℕ, zero, suc, _<_}
-use mathlib.Core.Path.{_≡_, refl, ap}
-use mathlib.Core.Logic.{_⊎_, inl, inr}
+-- What one step of the model does to one seat, and the rows of the table that the argument uses. Assumes nothing.
 use mathlib.Core.Bool.{Bool, true, false, not, _&&_}
+use mathlib.Core.Logic.{_⊎_, inl, inr, ⊎-elim}
+use mathlib.Core.Path.{_≡_, refl, ap}
+use Prim.Native.Nat.{ℕ, zero, suc, _<_}
 use native.Mathlib.Omega.{arith}
 use lib.Dec.{eqb}
 use borrow.Author.Tests.{eqb-true, eqb-false, eq-eqb, ne-eqb}
 use Rattle.lists.proofs.Tests.{both}
-use Rattle.demand3.proofs.Model.{State, Given, owns, acts, rests, selfGone, ownerGone, newAck, owner, role, leaves, drops, hold, step, Sound, Faulty, Terms}
+use Rattle.demand3.proofs.Model.{State, Given, selfGone, ownerGone, newAck, owns, acts, rests, owner, role, leaves, drops, hold, step}
+use Rattle.demand3.proofs.Model.{Sound, Faulty, Terms}
 
 pub same? : (p q : ℕ) → (p ≡ q) ⊎ (p ≡ q → ⊥)
-same? p q = elim (both (eqb p q)) [ inl e ↦ inl (eqb-true p q e) | inr e ↦ inr (eqb-false p q e) ]
+same? p q = ⊎-elim (λ e. inl (eqb-true p q e)) (λ e. inr (eqb-false p q e)) (both (eqb p q))
 
+-- a seat is sound or faulty
 pub data Kind (s : State) (p : ℕ) : Type 0 where
   sound : Sound s p → Kind s p
   faulty : (f : ℕ) → Faulty s p f → Kind s p
@@ -22,6 +24,8 @@ kind s p h = go (s .fault p) refl
     go : (f : ℕ) → s .fault p ≡ f → Kind s p
     go zero e = sound (record { seat = h; clean = e })
     go (suc f) e = faulty f (record { seat = h; since = e })
+
+-- ---- roles, and the sets after a step
 
 module _ (t : Given) (p : ℕ) where
   open Given t using (now)
@@ -42,11 +46,12 @@ module _ (t : Given) (p : ℕ) where
   role-act e h k = cc (ne-eqb p o e)
 
   pub role-out : set p p ≡ false → role t p ≡ rests
-  role-out h = elim (both (eqb p o)) [ inl e ↦ cc | inr e ↦ cc ]
+  role-out h = ⊎-elim (λ e. cc) (λ e. cc) (both (eqb p o))
 
   pub role-blind : (p ≡ o → ⊥) → set p o ≡ false → role t p ≡ rests
-  role-blind ne h = elim (both (set p p)) [ inl e ↦ cc (ne-eqb p o ne) | inr e ↦ cc (ne-eqb p o ne) ]
+  role-blind ne h = let b = ne-eqb p o ne in ⊎-elim (λ e. cc) (λ e. cc) (both (set p p))
 
+  -- a seat that rests changes nothing
   pub record Still : Type 0 where
     pub set : (q : ℕ) → set′ p q ≡ now .set p q
     pub ack : ack′ p ≡ now .ack p
@@ -58,25 +63,28 @@ module _ (t : Given) (p : ℕ) where
 
   -- the owner's set stays, in or out
   pub own-set : p ≡ o → (q : ℕ) → set′ p q ≡ set p q
-  own-set e q = elim (both (set p p)) [ inl h ↦ cc (role-own e h) | inr h ↦ cc (role-out h) ]
+  own-set e q = ⊎-elim (λ h. let r = role-own e h in cc) (λ h. let r = role-out h in cc) (both (set p p))
 
   -- a seat that acts: nobody goes, all but the owner stay, the owner goes, the seat goes
   pub act-nobody : role t p ≡ acts → leaves t p ≡ false → drops t p ≡ false → (q : ℕ) → set′ p q ≡ set p q
-  act-nobody r y z q = elim (both (set p q)) [ inl h ↦ cc | inr h ↦ cc ]
+  act-nobody r y z q = ⊎-elim (λ h. cc) (λ h. cc) (both (set p q))
 
   pub act-other : role t p ≡ acts → leaves t p ≡ false → (q : ℕ) → (q ≡ o → ⊥) → set′ p q ≡ set p q
-  act-other r y q ne = elim (both (drops t p)) [ inl k ↦ elim (both (set p q)) [ inl h ↦ cc (ne-eqb q o ne) | inr h ↦ cc ] | inr k ↦ act-nobody r y k q ]
+  act-other r y q ne =
+      let b = ne-eqb q o ne in
+      ⊎-elim (λ k. ⊎-elim (λ h. cc) (λ h. cc) (both (set p q))) (λ k. act-nobody r y k q) (both (drops t p))
 
   pub act-owner : role t p ≡ acts → drops t p ≡ true → (q : ℕ) → q ≡ o → set′ p q ≡ false
-  act-owner r z q e = elim (both (set p q && not (leaves t p && eqb q p))) [ inl h ↦ cc (eq-eqb q o e) | inr h ↦ cc ]
+  act-owner r z q e = let b = eq-eqb q o e in ⊎-elim (λ h. cc) (λ h. cc) (both (set p q && not (leaves t p && eqb q p)))
 
   pub act-self : role t p ≡ acts → leaves t p ≡ true → set′ p p ≡ false
-  act-self r y = elim (both (set p p)) [ inl h ↦ cc (eq-eqb p p refl) | inr h ↦ cc ]
+  act-self r y = let b = eq-eqb p p refl in ⊎-elim (λ h. cc) (λ h. cc) (both (set p p))
+
+-- ---- first faults
 
 pub differ : {s : State} {x f p : ℕ} → Faulty s x f → Sound s p → x ≡ p → ⊥
 differ {s} x p i = omega (arith, ap (s .fault) i, x .since, p .clean)
 
--- first faults
 module _ (t : Given) {p : ℕ} where
   open Given t using (now)
 
@@ -84,7 +92,11 @@ module _ (t : Given) {p : ℕ} where
   stays-faulty x = record { seat = x .seat; since = cc (x .since) }
 
   pub back-sound : Sound (step t) p → Sound now p
-  back-sound x = elim (kind now p (x .seat)) [ sound y ↦ y | faulty f y ↦ absurd (differ (stays-faulty y) x refl) ]
+  back-sound x = go (kind now p (x .seat))
+    where
+      go : Kind now p → Sound now p
+      go (sound y) = y
+      go (faulty f y) = absurd (differ (stays-faulty y) x refl)
 
   pub unheld : hold t p ≡ false → Sound now p → Sound (step t) p
   unheld h x = record { seat = x .seat; clean = cc (x .clean) }
@@ -100,7 +112,9 @@ back-terms t w = record {
   one-sound = back-sound t (w .one-sound);
 }
 
--- the table at the rows that the theorem uses
+-- ---- the table at the rows that the argument uses
+
+-- own bit and the bit heard agree
 pub agree-stays : (x d : Bool) → selfGone true x x d ≡ false
 agree-stays true d = refl
 agree-stays false d = refl
@@ -113,10 +127,12 @@ pub agree-acks : (x : Bool) → newAck true x x ≡ true
 agree-acks true = refl
 agree-acks false = refl
 
+-- the bit is true, own ack false
 pub low-leaves : (r d : Bool) → selfGone r true false d ≡ true
 low-leaves true d = refl
 low-leaves false d = refl
 
+-- the bit is false or does not arrive, own ack true, no doubt
 pub deaf-stays : (r : Bool) → selfGone r false true false ≡ false
 deaf-stays true = refl
 deaf-stays false = refl

@@ -8,12 +8,13 @@ use Rattle.ring.specs.Ring.{seatOf, sound}
 use Rattle.ring.specs.declared.Ring.{Ring}
 use Rattle.ring.specs.declared.slot.Seat.{Seat}
 use Rattle.steps.specs.Run.{start}
+use Rattle.steps.proofs.Reached.{run-reached}
 use Rattle.demand3.specs.Faults.{SoundSeat, SoundAfter}
 use Rattle.demand3.specs.Demand.{Agreement}
 use Rattle.demand3.specs.Runs.{fourApart, threeApart, alone, lastRing}
 use Rattle.demand3.specs.Tight.{Tight, OneIsEnough, AloneStays}
-use Rattle.demand3.proofs.Demand.{reached-by, agreement-of}
-use Rattle.demand3.proofs.Runs.{is-n, is-time, is-taken, is-seat, is-sound, is-fault, is-in, is-apart, is-within}
+use Rattle.demand3.proofs.Demand.{agreement-of}
+use Rattle.demand3.proofs.Runs.{is-n, is-time, is-seat, is-sound, is-fault, is-in, is-apart, is-within}
 
 -- a sound seat has no first fault
 never-faulty : (r : Ring) (p t : ℕ) → SoundSeat r p → SoundAfter r t p
@@ -38,7 +39,7 @@ module _ where
 
 pub tight : Tight
 tight = record {
-  two-left = record { taken = is-taken fourApart; apart = is-apart fourApart (omega arith) refl; broken = apart-sets };
+  two-left = record { apart = is-apart fourApart (omega arith) refl; broken = apart-sets };
   two-sound = record {
     one = 1;
     other = 2;
@@ -46,7 +47,7 @@ tight = record {
     one-sound = never-faulty r 1 _ one;
     other-sound = never-faulty r 2 _ two;
   };
-  one-left = record { taken = is-taken threeApart; apart = is-apart threeApart (omega arith) refl; broken = out-of-its-own };
+  one-left = record { apart = is-apart threeApart (omega arith) refl; broken = out-of-its-own };
   one-sound = last;
   no-other = no-other;
 }
@@ -65,11 +66,11 @@ tight = record {
     no-other (suc (suc (suc p))) s = absurd (omega (arith, s .seat, is-n threeApart))
 
 pub one-is-enough : OneIsEnough
-one-is-enough n trail steps low high t w p s = agreement-of n trail low high (reached-by n trail low high start steps t) w s
+one-is-enough n trail steps low high w p s = agreement-of n trail low high (run-reached steps start) w s
 
 pub alone-stays : AloneStays
 alone-stays = record {
-  within = is-within alone (omega arith) (omega arith) refl refl;
+  within = is-within alone (omega arith) (omega arith) refl;
   fault = is-fault alone 1 0 refl refl;
   over = omega (arith, is-n alone, is-time alone);
   stays = ap not (is-in alone 1 1 refl);

@@ -1,17 +1,16 @@
 -- Demand 3 of the order, over the engine: what the sound seats hold, and when a faulty seat is gone, after every step of a run within the
 -- fault terms.
-use mathlib.Core.Bool.{Bool, true, false, _&&_}
-use mathlib.Core.List.{List, [], _∷_, _++_}
+use mathlib.Core.Bool.{true, false}
+use mathlib.Core.List.{List, _++_}
 use mathlib.Core.Logic.{_⊎_}
 use mathlib.Core.Path.{_≡_}
 use Prim.Native.Nat.{ℕ, _+_, _%_, _^_, _≤_, _<_}
 use Rattle.limits.specs.Limits.{seatsLeast, seatsMost}
-use Rattle.limits.specs.Refusals.{onDone}
 use Rattle.seats.specs.Sets.{hasSeat}
 use Rattle.ring.specs.Ring.{seatOf, out}
 use Rattle.ring.specs.Refusals.{verdictFound, within}
 use Rattle.ring.specs.declared.Ring.{Ring}
-use Rattle.steps.specs.Run.{Marks, Bench, toldOn, stepOn, freshBench, runOn}
+use Rattle.steps.specs.Run.{Marks, freshBench, runOn}
 use Rattle.demand3.specs.Faults.{SoundSeat, FirstFault}
 
 -- ---- a ring in agreement
@@ -36,22 +35,16 @@ pub record Agreement (r : Ring) : Type 0 where
 
 -- ---- a run
 
--- every step of the list is taken
-unfoldable pub allTaken : List Marks → Bench → Bool
-allTaken [] b = true
-allTaken (m ∷ more) b = onDone (toldOn m b) true false && allTaken more (stepOn m b)
-
--- a fresh ring of 2 to 32 seats, any list of steps, all of them taken, and the verdict `within` on the last ring
+-- a fresh ring of 2 to 32 seats, any list of steps (one that is refused changes nothing), and the verdict `within` on the last ring
 pub record RunWithin (n : ℕ) (trail : List ℕ) (steps : List Marks) : Type 0 where
   pub least : seatsLeast ≤ n
   pub most : n ≤ seatsMost
-  pub taken : allTaken steps (freshBench n trail) ≡ true
   pub terms : verdictFound (runOn steps (freshBench n trail) .ring) ≡ within
 
 -- then after every step, `steps` being those up to it and `more` the rest, the ring is in agreement
 abbrev pub Demand3 : Type 0
 Demand3 = (n : ℕ) (trail : List ℕ) (steps more : List Marks) → RunWithin n trail (steps ++ more) → Agreement (runOn steps (freshBench n trail) .ring)
 
--- and the verdict was `within` at every step before: the terms of the last ring suffice
+-- and the verdict was `within` after every step before: the terms of the last ring suffice
 abbrev pub HeldBefore : Type 0
 HeldBefore = (n : ℕ) (trail : List ℕ) (steps more : List Marks) → RunWithin n trail (steps ++ more) → RunWithin n trail steps

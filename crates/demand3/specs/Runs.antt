@@ -9,8 +9,7 @@ use Rattle.ring.specs.Terms.{apartBy}
 use Rattle.ring.specs.Refusals.{Finding, within, outside, verdictFound}
 use Rattle.ring.specs.declared.Ring.{Ring}
 use Rattle.ring.specs.declared.slot.Seat.{Seat}
-use Rattle.steps.specs.Run.{Marks, Bench, freshBench, runOn}
-use Rattle.demand3.specs.Demand.{allTaken}
+use Rattle.steps.specs.Run.{Marks, freshBench, runOn}
 
 -- a step without marks, with a send mark, with a receive mark for one seat
 abbrev quiet : Marks
@@ -62,16 +61,12 @@ stepsOf afterOut = missedBy 1 ∷ quiet ∷ quiet ∷ []
 abbrev pub trailOfRun : List ℕ
 trailOfRun = replicate 100 0
 
-abbrev pub startOf : Run → Bench
-startOf x = freshBench (seatsIn x) trailOfRun
-
 abbrev pub lastRing : Run → Ring
-lastRing x = runOn (stepsOf x) (startOf x) .ring
+lastRing x = runOn (stepsOf x) (freshBench (seatsIn x) trailOfRun) .ring
 
 -- ---- what comes of a run
 
 pub record Outcome : Type 0 where
-  pub taken : Bool
   pub verdict : Finding
   pub n : ℕ
   pub time : ℕ
@@ -79,9 +74,8 @@ pub record Outcome : Type 0 where
   pub nApart : Bool
   pub seats : List Seat
 
-abbrev outcomeOn : Bool → Ring → Outcome
-outcomeOn taken r = record {
-  taken = taken;
+abbrev outcomeOn : Ring → Outcome
+outcomeOn r = record {
   verdict = verdictFound r;
   n = r .n;
   time = r .time;
@@ -90,14 +84,14 @@ outcomeOn taken r = record {
 }
 
 unfoldable pub outcomeOf : Run → Outcome
-outcomeOf x = outcomeOn (allTaken (stepsOf x) (startOf x)) (lastRing x)
+outcomeOf x = outcomeOn (lastRing x)
 
 -- set, ack, doubt and first fault, as the ring keeps them
 abbrev seat : ℕ → Bool → Bool → ℕ → Seat
 seat set ack doubt fault = record { set = set; ack = ack; doubt = doubt; fault = fault }
 
 abbrev comes : Finding → ℕ → ℕ → List Seat → Outcome
-comes verdict n time seats = record { taken = true; verdict = verdict; n = n; time = time; nApart = true; seats = seats }
+comes verdict n time seats = record { verdict = verdict; n = n; time = time; nApart = true; seats = seats }
 
 abbrev pub stated : Run → Outcome
 stated fiveApart = comes within 4 9 (seat 5 true false 0 ∷ seat 1 true false 6 ∷ seat 5 true false 0 ∷ seat 6 true false 1 ∷ [])

@@ -1,5 +1,5 @@
 -- That the fault terms are tight in their distance; that of the sound seats one is enough; and that the exception of a seat alone is needed.
-use mathlib.Core.Bool.{true, false}
+use mathlib.Core.Bool.{false}
 use mathlib.Core.List.{List}
 use mathlib.Core.Path.{_≡_}
 use Prim.Native.Nat.{ℕ, _+_, _≤_}
@@ -7,12 +7,11 @@ use Rattle.limits.specs.Limits.{seatsLeast, seatsMost}
 use Rattle.ring.specs.Ring.{seatOf, out}
 use Rattle.steps.specs.Run.{Marks, freshBench, runOn}
 use Rattle.demand3.specs.Faults.{SoundSeat, FirstFault, Apart, TwoSound}
-use Rattle.demand3.specs.Demand.{Agreement, allTaken, RunWithin}
-use Rattle.demand3.specs.Runs.{Run, fourApart, threeApart, alone, seatsIn, stepsOf, trailOfRun, startOf, lastRing}
+use Rattle.demand3.specs.Demand.{Agreement, RunWithin}
+use Rattle.demand3.specs.Runs.{Run, fourApart, threeApart, alone, seatsIn, stepsOf, trailOfRun, lastRing}
 
--- a run, all of its steps taken, whose first faults are n slots apart instead of n + 1, and which ends out of agreement
+-- a run whose first faults are n slots apart instead of n + 1, and which ends out of agreement
 pub record Breaks (x : Run) : Type 0 where
-  pub taken : allTaken (stepsOf x) (startOf x) ≡ true
   pub apart : Apart (lastRing x .n) (lastRing x) (lastRing x .time)
   pub broken : Agreement (lastRing x) → ⊥
 
@@ -27,7 +26,7 @@ pub record Tight : Type 0 where
 -- n + 1 slots apart, a single sound seat is enough
 abbrev pub OneIsEnough : Type 0
 OneIsEnough =
-    (n : ℕ) (trail : List ℕ) (steps : List Marks) → seatsLeast ≤ n → n ≤ seatsMost → allTaken steps (freshBench n trail) ≡ true
+    (n : ℕ) (trail : List ℕ) (steps : List Marks) → seatsLeast ≤ n → n ≤ seatsMost
     → let r = runOn steps (freshBench n trail) .ring in
     Apart (r .n + 1) r (r .time) → (p : ℕ) → SoundSeat r p → Agreement r
 
