@@ -1,7 +1,7 @@
 -- The fault terms of a ring: what they say of the state that it is read as, and that they held before every step. Assumes nothing.
 use mathlib.Core.List.{List}
-use mathlib.Core.Path.{_≡_, refl, sym, ap, _∙_, subst}
-use Prim.Native.Nat.{ℕ, zero, suc, _+_, _≤_, _<_}
+use mathlib.Core.Path.{_≡_, sym, ap, _∙_, subst}
+use Prim.Native.Nat.{ℕ, _+_, _≤_, _<_}
 use native.Mathlib.Omega.{arith}
 use Rattle.limits.specs.Limits.{roomMost}
 use Rattle.limits.specs.Refusals.{done}
@@ -11,14 +11,14 @@ use Rattle.steps.specs.Run.{Marks, Bench, toldOn, stepOn, Reached}
 use Rattle.steps.specs.Valid.{Valid}
 use Rattle.steps.proofs.Valid.{valid-ring}
 use Rattle.steps.proofs.Reached.{benchAfter, step-after, reached-stands}
-use Rattle.demand3.specs.Faults.{SoundSeat, FirstFault, Apart, SoundAfter, TermsHold}
+use Rattle.demand3.specs.Faults.{FirstFault, Apart, TermsHold}
 use Rattle.demand3.specs.Verdict.{TermsKept}
-use Rattle.demand3.proofs.Model.{State, Sound, Faulty, Terms}
-use Rattle.demand3.proofs.Seat.{Kind, sound, faulty, kind, stays-faulty}
+use Rattle.demand3.proofs.Model.{State, Faulty, Terms}
+use Rattle.demand3.proofs.Seat.{sound, stays-faulty}
 use Rattle.demand3.proofs.View.{stateOf, givenOf, state-after}
 use Rattle.demand3.proofs.Along.{along}
 use Rattle.demand3.proofs.Decided.{decides}
-use Rattle.demand3.proofs.Read.{to-sound, from-sound, to-faulty, from-faulty}
+use Rattle.demand3.proofs.Read.{to-faulty, from-faulty}
 
 -- ---- the fault terms, of the ring and of the state
 
@@ -27,31 +27,13 @@ module _ (r : Ring) (room : ℕ) (v : Valid r room) where
   past : {x t : ℕ} → FirstFault r x t → t < r .time
   past {x} y = omega (arith, y .since, v .member x (y .seat) .past)
 
-  clean : (p : ℕ) → p < r .n → ((f : ℕ) → FirstFault r p f → ⊥) → SoundSeat r p
-  clean p h none = from-sound r (go (kind (stateOf r) p h))
-    where
-      go : Kind (stateOf r) p → Sound (stateOf r) p
-      go (sound s) = s
-      go (faulty f y) = absurd (none f (from-faulty r y))
-
-  pub one-of : TermsKept r → (p : ℕ) × SoundSeat r p
-  one-of w = go (r .time) refl
-    where
-      go : (k : ℕ) → r .time ≡ k → (p : ℕ) × SoundSeat r p
-      go zero e = (0, clean 0 (omega (arith, v .least)) (λ f y. omega (arith, past y)))
-      go (suc k) e =
-          let s : SoundAfter r k (w k (omega arith) .sound .one) = w k (omega arith) .sound .one-sound in
-          (w k (omega arith) .sound .one, clean _ (s .seat) (λ f y. omega (arith, past y, s .later y)))
-
   pub apart-of : TermsKept r → Apart (r .n + 1) r (r .time)
   apart-of w = record { spaced = λ {x} {y} {f} {g} fx fy ne l m. w g (past fy) .apart .spaced fx fy ne l (omega arith) }
 
-  pub terms-of : Apart (r .n + 1) r (r .time) → {p : ℕ} → SoundSeat r p → Terms (stateOf r)
-  terms-of w {p} s = record {
+  pub terms-of : Apart (r .n + 1) r (r .time) → Terms (stateOf r)
+  terms-of w = record {
     apart = λ {x} {y} {f} {g} fx fy ne l.
         omega (arith, w .spaced (from-faulty r fx) (from-faulty r fy) ne l (omega (arith, past (from-faulty r fy))));
-    one = p;
-    one-sound = to-sound r s;
   }
 
 -- ---- a step before

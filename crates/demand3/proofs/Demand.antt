@@ -10,14 +10,14 @@ use Rattle.ring.specs.Refusals.{verdictFound, within}
 use Rattle.steps.specs.Run.{Marks, Bench, toldOn, stepOn, freshBench, Reached, start, runOn}
 use Rattle.steps.proofs.Taken.{told-is}
 use Rattle.steps.proofs.Reached.{reached-stands, step-refused, run-reached}
-use Rattle.demand3.specs.Faults.{SoundSeat, Apart}
+use Rattle.demand3.specs.Faults.{Apart}
 use Rattle.demand3.specs.Demand.{Agreement, Demand3, HeldBefore}
 use Rattle.demand3.proofs.Agrees.{agrees}
 use Rattle.demand3.proofs.View.{stateOf}
 use Rattle.demand3.proofs.Along.{along}
 use Rattle.demand3.proofs.Decided.{decides}
 use Rattle.demand3.proofs.Read.{agreement}
-use Rattle.demand3.proofs.Before.{one-of, apart-of, terms-of, within-before}
+use Rattle.demand3.proofs.Before.{apart-of, terms-of, within-before}
 
 run-on : (steps more : List Marks) (b : Bench) → runOn (steps ++ more) b ≡ runOn more (runOn steps b)
 unfolding runOn
@@ -43,19 +43,17 @@ module _ (n : ℕ) (trail : List ℕ) (low : 2 ≤ n) (high : n ≤ 32) where
   within-since run [] h = h
   within-since run (m ∷ more) h = within-step run m (within-since (step-reached run m) more h)
 
-  -- first faults n + 1 slots apart and one sound seat are enough
-  pub agreement-of : {b : Bench} → Reached n trail b → Apart (b .ring .n + 1) (b .ring) (b .ring .time) → {p : ℕ} → SoundSeat (b .ring) p
-      → Agreement (b .ring)
-  agreement-of {b} run w s =
+  -- first faults n + 1 slots apart are enough
+  pub agreement-of : {b : Bench} → Reached n trail b → Apart (b .ring .n + 1) (b .ring) (b .ring .time) → Agreement (b .ring)
+  agreement-of {b} run w =
       let v = reached-stands n trail low high run .valid in
-      let t = terms-of (b .ring) _ v w s in
+      let t = terms-of (b .ring) _ v w in
       agreement (b .ring) _ v (agrees (stateOf (b .ring)) (along n trail low high run .kept t) t)
 
   pub agreement-within : {b : Bench} → Reached n trail b → verdictFound (b .ring) ≡ within → Agreement (b .ring)
   agreement-within {b} run h =
       let v = reached-stands n trail low high run .valid in
-      let t = decides (b .ring) .within-kept h in
-      agreement-of run (apart-of (b .ring) _ v t) (one-of (b .ring) _ v t .1)
+      agreement-of run (apart-of (b .ring) _ v (decides (b .ring) .within-kept h))
 
 pub held-before : HeldBefore
 held-before n trail steps more w =

@@ -1,6 +1,6 @@
 -- A slot whose owner the sound seats do not hold: nothing changes for them. Assumes nothing.
 use mathlib.Core.Bool.{true, false, _&&_, false≢true}
-use mathlib.Core.Logic.{⊎-elim}
+use mathlib.Core.Logic.{_⊎_, inl, inr, ⊎-elim}
 use mathlib.Core.Path.{_≡_, refl, sym, _∙_, ap}
 use Prim.Native.Nat.{ℕ, suc, _%_}
 use native.Mathlib.Omega.{arith}
@@ -9,7 +9,7 @@ use borrow.Author.Tests.{eq-eqb}
 use Rattle.lists.proofs.Tests.{both}
 use Rattle.demand3.proofs.Model.{State, Given, hold, Sound, Faulty}
 use Rattle.demand3.proofs.Seat.{same?, role-blind, Still, still, differ, back-sound}
-use Rattle.demand3.proofs.Invariant.{Holds, Active, Latest, gone, alone, active, Pending, Low, Inv, soon}
+use Rattle.demand3.proofs.Invariant.{Holds, Active, Latest, gone, alone, active, Pending, Low, NoneSound, Inv, soon}
 use Rattle.demand3.proofs.Moves.{Move, o, later, slot-seat, back-faulty, keeps-sound, out-step, alone-step, alone-ack, passed-step}
 use Rattle.demand3.proofs.Moves.{carry, pending-step, after-quiet}
 
@@ -50,10 +50,9 @@ module _ (m : Move) where
         rw (w .heard) (pending-step m quiet w (λ i. false≢true (sym (calm-owner (w .late) (w .is) i) ∙ e)))
 
     -- the sound slot that comes is not this one
-    low : bit ≡ false → Low (later m) last
-    low e =
-        let w : Low now last = inv .low e in
-        record {
+    low : Low now last ⊎ NoneSound now → Low (later m) last ⊎ NoneSound (later m)
+    low (inl w) =
+        inl (record {
           f = w .f;
           k = w .k;
           is = w .is;
@@ -63,7 +62,8 @@ module _ (m : Move) where
               (same? (w .k) time);
           high = w .high;
           next = keeps-sound m quiet (w .next);
-        }
+        })
+    low (inr none) = inr (λ p sp. none p (back-sound given sp))
 
     module _ (x f : ℕ) (fx : Faulty now x f) (el : last ≡ suc f) where
       unseen : Active now f bit due x → (x ≡ o m → ⊥) → set x (o m) ≡ false → Latest (later m) f bit due x
@@ -100,6 +100,6 @@ module _ (m : Move) where
     pub idle : Inv (later m) last bit due
     idle =
         after-quiet m quiet
-        (record { holds = holds; pend = pending; low = low })
+        (record { holds = holds; pend = pending; low = λ e. low (inv .low e) })
         latest
         (λ x f y e h. passed-step m (inv .over h y e))

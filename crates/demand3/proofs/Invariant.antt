@@ -54,7 +54,7 @@ module _ (s : State) where
     pub missed : Sound s (f % n)
     pub ahead : Ahead f x
 
-  -- while the sound seats' bit is false: a sound seat's slot comes before any further first fault
+  -- a sound seat's slot comes before any further first fault
   pub record Low (last : ℕ) : Type 0 where
     pub f : ℕ
     pub k : ℕ
@@ -62,6 +62,9 @@ module _ (s : State) where
     pub low : time ≤ k
     pub high : k ≤ f + n
     pub next : Sound s (k % n)
+
+  abbrev pub NoneSound : Type 0
+  NoneSound = (p : ℕ) → Sound s p → ⊥
 
   pub record Top (last : ℕ) : Type 0 where
     pub f : ℕ
@@ -86,7 +89,7 @@ module _ (s : State) where
     pub late : {x f : ℕ} → Faulty s x f → last ≡ suc f → Latest f bit due x
     pub pend : due ≡ true → Pending last bit
     pub over : due ≡ false → {x f : ℕ} → Faulty s x f → last ≡ suc f → Passed f x
-    pub low : bit ≡ false → Low last
+    pub low : bit ≡ false → Low last ⊎ NoneSound
 
   -- what is due comes within n slots
   pub soon : {last : ℕ} {bit : Bool} (w : Pending last bit) → time < w .f + n

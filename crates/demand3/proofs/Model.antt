@@ -134,11 +134,9 @@ module _ (s : State) where
     pub seat : x < n
     pub since : fault x ≡ suc f
 
-  -- first faults are at least n + 1 slots apart, and a seat is sound (document 01 asks for two; one is enough here)
+  -- first faults are at least n + 1 slots apart. (Document 01 asks for two sound seats too; agreement does not need them)
   pub record Terms : Type 0 where
     pub apart : {x y f g : ℕ} → Faulty x f → Faulty y g → (x ≡ y → ⊥) → f ≤ g → f + n < g
-    pub one : ℕ
-    pub one-sound : Sound one
 
   pub record Agrees : Type 0 where
     pub one-set : {p q : ℕ} → Sound p → Sound q → (r : ℕ) → r < n → set p r ≡ set q r

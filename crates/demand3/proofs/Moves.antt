@@ -12,7 +12,7 @@ use Rattle.lists.proofs.Tests.{both}
 use Rattle.demand3.proofs.Model.{State, Given, owns, acts, owner, role, arrived, hold, step, Sound, Faulty, Terms}
 use Rattle.demand3.proofs.Seat.{same?, Kind, sound, faulty, kind, differ, stays-faulty, unheld, held}
 use Rattle.demand3.proofs.Seat.{role-own, role-act, role-out, role-blind, still, own-set, act-nobody, agree-stays, agree-keeps, agree-acks}
-use Rattle.demand3.proofs.Invariant.{Holds, Alone, Ahead, Active, Latest, gone, alone, active, Pending, Low, Top, Passed, Inv, soon, settle}
+use Rattle.demand3.proofs.Invariant.{Holds, Alone, Ahead, Active, Latest, gone, alone, active, Pending, Low, NoneSound, Top, Passed, Inv, soon, settle}
 
 -- a step within the fault terms, from a state of which the invariant holds
 pub record Move : Type 0 where
@@ -128,7 +128,7 @@ module _ (m : Move) where
   pub record Shown (last′ : ℕ) (bit′ due′ : Bool) : Type 0 where
     pub holds : (p : ℕ) → Sound later p → Holds later last′ bit′ due′ p
     pub pend : due′ ≡ true → Pending later last′ bit′
-    pub low : bit′ ≡ false → Low later last′
+    pub low : bit′ ≡ false → Low later last′ ⊎ NoneSound later
 
   -- ---- the step in which c has its first fault
 
@@ -148,8 +148,9 @@ module _ (m : Move) where
     pub up : bit ≡ true
     up = ⊎-elim (λ e. e) (λ e. absurd (go (inv .low e))) (both bit)
       where
-        go : Low now last → ⊥
-        go w = spaced (omega (arith, w .is)) (omega (arith, w .is, w .low, w .high))
+        go : Low now last ⊎ NoneSound now → ⊥
+        go (inl w) = spaced (omega (arith, w .is)) (omega (arith, w .is, w .low, w .high))
+        go (inr none) = none c sc
 
     pub unmarked : {q : ℕ} → Sound now q → (q ≡ c → ⊥) → hold given q ≡ false
     unmarked {q} x ne =

@@ -126,6 +126,6 @@ module _ (m : Move) where
     pub removed : Inv (later m) last false false
     removed =
         after-quiet m quiet
-        (record { holds = holds; pend = λ h. absurd (false≢true h); low = λ h. low })
+        (record { holds = holds; pend = λ h. absurd (false≢true h); low = λ h. inl low })
         latest
         (λ x f y e h. passed-now m (omega (arith, inv .since)) (is-owner y e))

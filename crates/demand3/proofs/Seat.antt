@@ -5,8 +5,9 @@ use mathlib.Core.Path.{_≡_, refl, ap}
 use Prim.Native.Nat.{ℕ, zero, suc, _<_}
 use native.Mathlib.Omega.{arith}
 use lib.Dec.{eqb}
-use borrow.Author.Tests.{eqb-true, eqb-false, eq-eqb, ne-eqb}
-use Rattle.lists.proofs.Tests.{both}
+use borrow.Author.Tests.{eqb-true, eqb-false, eq-eqb, ne-eqb, not-true, not-false}
+use Rattle.lists.specs.Counted.{allBelow}
+use Rattle.lists.proofs.Tests.{both, all-at, all-not}
 use Rattle.demand3.proofs.Model.{State, Given, selfGone, ownerGone, newAck, owns, acts, rests, owner, role, leaves, drops, hold, step}
 use Rattle.demand3.proofs.Model.{Sound, Faulty, Terms}
 
@@ -24,6 +25,21 @@ kind s p h = go (s .fault p) refl
     go : (f : ℕ) → s .fault p ≡ f → Kind s p
     go zero e = sound (record { seat = h; clean = e })
     go (suc f) e = faulty f (record { seat = h; since = e })
+
+-- a seat is sound, or none is
+pub data SomeSound (s : State) : Type 0 where
+  some : (p : ℕ) → Sound s p → SomeSound s
+  none : ((p : ℕ) → Sound s p → ⊥) → SomeSound s
+
+pub some-sound : (s : State) → SomeSound s
+some-sound s =
+    ⊎-elim
+    (λ e. none (λ p sp. eqb-false (s .fault p) 0 (not-true _ (all-at unsound (s .n) p e (sp .seat))) (sp .clean)))
+    (λ e. let p = all-not unsound (s .n) e in some (p .0) (record { seat = p .1; clean = eqb-true _ _ (not-false _ (p .2)) }))
+    (both (allBelow (s .n) unsound))
+  where
+    unsound : ℕ → Bool
+    unsound p = not (eqb (s .fault p) 0)
 
 -- ---- roles, and the sets after a step
 
@@ -106,11 +122,7 @@ module _ (t : Given) {p : ℕ} where
 
 -- the terms held before the step too
 pub back-terms : (t : Given) → Terms (step t) → Terms (t .now)
-back-terms t w = record {
-  apart = λ x y. w .apart (stays-faulty t x) (stays-faulty t y);
-  one = w .one;
-  one-sound = back-sound t (w .one-sound);
-}
+back-terms t w = record { apart = λ x y. w .apart (stays-faulty t x) (stays-faulty t y) }
 
 -- ---- the table at the rows that the argument uses
 

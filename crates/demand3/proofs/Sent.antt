@@ -1,17 +1,17 @@
 -- A first fault by sending: the sound owner is silent, and the sound seats drop it at once. Assumes nothing.
 use mathlib.Core.Bool.{true, false, false≢true}
-use mathlib.Core.Logic.{⊎-elim}
+use mathlib.Core.Logic.{_⊎_, inl, inr, ⊎-elim}
 use mathlib.Core.Path.{_≡_, refl, sym, _∙_}
 use Prim.Native.Nat.{ℕ, suc}
 use native.Mathlib.Omega.{arith}
 use Rattle.demand3.proofs.Slots.{OwnSlot, own-slot, once}
 use Rattle.demand3.proofs.Model.{State, Given, owns, acts, role, arrived, leaves, hold, Sound, Faulty}
-use Rattle.demand3.proofs.Seat.{same?, role-own, role-act, own-set, act-other, act-owner, differ, back-sound}
-use Rattle.demand3.proofs.Invariant.{Holds, Active, active, Low, Inv}
+use Rattle.demand3.proofs.Seat.{SomeSound, some, none, some-sound, same?, role-own, role-act, own-set, act-other, act-owner, differ, back-sound}
+use Rattle.demand3.proofs.Invariant.{Holds, Active, active, Low, NoneSound, Inv}
 use Rattle.demand3.proofs.Moves.{Move, o, later, sees, starts, calm, up, was-faulty, first-kin, after-first}
 
 module _ (m : Move) where
-  open Move m using (given, inv, terms)
+  open Move m using (given, inv)
   open Given given using (now, send)
   open State now using (n, time, set)
   open State (later m) using (set as set′)
@@ -67,14 +67,16 @@ module _ (m : Move) where
         same : (q : ℕ) → set′ (o m) q ≡ set (o m) q
         same = own-set given (o m) refl
 
-    low : Low (later m) (suc time)
-    low =
-        let k : OwnSlot n (terms .one) (suc time) = own-slot n (terms .one) (suc time) (terms .one-sound .seat) in
-        record { f = time; k = k .at; is = refl; low = k .low; high = omega (arith, k .high); next = rw (k .owner) (terms .one-sound) }
+    -- a sound seat that is left, if there is one, has a slot among the next n
+    low : SomeSound (later m) → Low (later m) (suc time) ⊎ NoneSound (later m)
+    low (some p sp) =
+        let k : OwnSlot n p (suc time) = own-slot n p (suc time) (sp .seat) in
+        inl (record { f = time; k = k .at; is = refl; low = k .low; high = omega (arith, k .high); next = rw (k .owner) sp })
+    low (none h) = inr h
 
     pub sent : Inv (later m) (suc time) false false
     sent =
         after-first m (o m) so yo
-        (record { holds = holds; pend = λ h. absurd (false≢true h); low = λ h. low })
+        (record { holds = holds; pend = λ h. absurd (false≢true h); low = λ h. low (some-sound (later m)) })
         (active act (omega (arith, inv .size)))
         (λ h. refl)

@@ -1,4 +1,4 @@
--- The fault terms are tight in their distance, one sound seat is enough, and a faulty seat may stay in its own set alone. Assumes nothing.
+-- The fault terms are tight in their distance, agreement needs the distance alone, and a faulty seat may stay in its own set alone. Assumes nothing.
 use mathlib.Core.Bool.{true, false, not, false≢true}
 use mathlib.Core.Path.{_≡_, refl, sym, ap, _∙_}
 use Prim.Native.Nat.{ℕ, zero, suc}
@@ -12,7 +12,7 @@ use Rattle.steps.proofs.Reached.{run-reached}
 use Rattle.demand3.specs.Faults.{SoundSeat, SoundAfter}
 use Rattle.demand3.specs.Demand.{Agreement}
 use Rattle.demand3.specs.Runs.{fourApart, threeApart, alone, lastRing}
-use Rattle.demand3.specs.Tight.{Tight, OneIsEnough, AloneStays}
+use Rattle.demand3.specs.Tight.{Tight, ApartIsEnough, AloneStays}
 use Rattle.demand3.proofs.Demand.{agreement-of}
 use Rattle.demand3.proofs.Runs.{is-n, is-time, is-seat, is-sound, is-fault, is-in, is-apart, is-within}
 
@@ -65,8 +65,8 @@ tight = record {
     no-other (suc (suc zero)) s = absurd (false≢true (sym (ap sound (is-seat threeApart 2 refl)) ∙ s .never))
     no-other (suc (suc (suc p))) s = absurd (omega (arith, s .seat, is-n threeApart))
 
-pub one-is-enough : OneIsEnough
-one-is-enough n trail steps low high w p s = agreement-of n trail low high (run-reached steps start) w s
+pub apart-is-enough : ApartIsEnough
+apart-is-enough n trail steps low high w = agreement-of n trail low high (run-reached steps start) w
 
 pub alone-stays : AloneStays
 alone-stays = record {

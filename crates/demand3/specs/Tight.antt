@@ -1,4 +1,4 @@
--- That the fault terms are tight in their distance; that of the sound seats one is enough; and that the exception of a seat alone is needed.
+-- That the fault terms are tight in their distance; that agreement needs the distance alone; and that the exception of a seat alone is needed.
 use mathlib.Core.Bool.{false}
 use mathlib.Core.List.{List}
 use mathlib.Core.Path.{_≡_}
@@ -23,14 +23,14 @@ pub record Tight : Type 0 where
   pub one-sound : SoundSeat (lastRing threeApart) 1
   pub no-other : (p : ℕ) → SoundSeat (lastRing threeApart) p → p ≡ 1
 
--- n + 1 slots apart, a single sound seat is enough
-abbrev pub OneIsEnough : Type 0
-OneIsEnough =
+-- n + 1 slots apart is enough, with however few sound seats
+abbrev pub ApartIsEnough : Type 0
+ApartIsEnough =
     (n : ℕ) (trail : List ℕ) (steps : List Marks) → seatsLeast ≤ n → n ≤ seatsMost
     → let r = runOn steps (freshBench n trail) .ring in
-    Apart (r .n + 1) r (r .time) → (p : ℕ) → SoundSeat r p → Agreement r
+    Apart (r .n + 1) r (r .time) → Agreement r
 
--- a run within the terms in which a faulty seat never leaves its own set
+-- a run within the terms in which a faulty seat is in its own set after slot t + n - 1
 pub record AloneStays : Type 0 where
   pub within : RunWithin (seatsIn alone) trailOfRun (stepsOf alone)
   pub fault : FirstFault (lastRing alone) 1 0
