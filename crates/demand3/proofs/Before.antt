@@ -14,7 +14,7 @@ use Rattle.steps.proofs.Reached.{benchAfter, step-after, reached-stands}
 use Rattle.demand3.specs.Faults.{FirstFault, Apart, TermsHold}
 use Rattle.demand3.specs.Verdict.{TermsKept}
 use Rattle.demand3.proofs.Model.{State, Faulty, Terms}
-use Rattle.demand3.proofs.Seat.{sound, stays-faulty}
+use Rattle.demand3.proofs.Seat.{stays-faulty}
 use Rattle.demand3.proofs.View.{stateOf, givenOf, state-after}
 use Rattle.demand3.proofs.Along.{along}
 use Rattle.demand3.proofs.Decided.{decides}
@@ -38,6 +38,7 @@ module _ (r : Ring) (room : ℕ) (v : Valid r room) where
 
 -- ---- a step before
 
+-- the verdict's room is as large as any
 wider : (r : Ring) {room wide : ℕ} → room ≤ wide → Valid r room → Valid r wide
 wider r h v = record { least = v .least; most = v .most; soon = v .soon; fits = omega (arith, v .fits); member = v .member; absent = v .absent }
 

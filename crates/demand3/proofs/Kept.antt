@@ -1,13 +1,13 @@
 -- The invariant holds of a fresh state, and every step within the fault terms keeps it. Assumes nothing.
 use mathlib.Core.Bool.{Bool, true, false, not, _&&_, false≢true, true≢false}
-use mathlib.Core.Logic.{⊎-elim}
+use mathlib.Core.Logic.{_⊎_, inl, inr, ⊎-elim}
 use mathlib.Core.Path.{_≡_, sym}
 use Prim.Native.Nat.{ℕ, suc, _<_}
 use native.Mathlib.Omega.{arith}
 use lib.Dec.{eqb}
 use borrow.Author.Tests.{eqb-true, eqb-false, eq-eqb, ne-eqb, not-true, not-false}
-use Rattle.lists.specs.Counted.{allBelow}
-use Rattle.lists.proofs.Tests.{both, and-true, all-at, all-not}
+use Rattle.lists.proofs.Tests.{both, and-true}
+use Rattle.demand3.proofs.Found.{found}
 use Rattle.demand3.proofs.Model.{State, Given, owner, step, Fresh, Sound, Faulty, Terms}
 use Rattle.demand3.proofs.Seat.{Kind, sound, faulty, kind}
 use Rattle.demand3.proofs.Invariant.{Inv}
@@ -58,25 +58,23 @@ data Misses (t : Given) : Type 0 where
 module _ (t : Given) where
   open Given t using (now, receive)
 
-  abbrev clear : ℕ → Bool
-  clear p = not (receive p && eqb (now .fault p) 0 && not (eqb p (owner t)))
+  abbrev marked : ℕ → Bool
+  marked p = receive p && eqb (now .fault p) 0 && not (eqb p (owner t))
 
   misses : Misses t
-  misses = ⊎-elim (λ e. none (free e)) (λ e. let c = all-not clear (now .n) e in found (c .0) (c .1) (c .2)) (both (allBelow (now .n) clear))
+  misses = go (found marked (now .n))
     where
-      free : allBelow (now .n) clear ≡ true → (p : ℕ) → Sound now p → (p ≡ owner t → ⊥) → receive p ≡ false
-      free e p sp ne =
-          let k : clear p ≡ true = all-at clear (now .n) p e (sp .seat) in
-          ⊎-elim
-          (λ y. absurd (false≢true (cc (k, y, eq-eqb (now .fault p) 0 (sp .clean), ne-eqb p (owner t) ne))))
-          (λ y. y)
-          (both (receive p))
-
-      found : (c : ℕ) → c < now .n → clear c ≡ false → Misses t
-      found c h e =
-          let k = and-true _ _ (not-false _ e) in
+      go : ((p : ℕ) × (p < now .n) × (marked p ≡ true)) ⊎ ((p : ℕ) → p < now .n → marked p ≡ false) → Misses t
+      go (inl (p, h, e)) =
+          let k = and-true _ _ e in
           let j = and-true _ _ (k .0) in
-          one c (record { seat = h; clean = eqb-true _ _ (j .1) }) (eqb-false c (owner t) (not-true _ (k .1))) (j .0)
+          one p (record { seat = h; clean = eqb-true _ _ (j .1) }) (eqb-false p (owner t) (not-true _ (k .1))) (j .0)
+      go (inr free) = none (λ p sp ne.
+          let k : marked p ≡ false = free p (sp .seat) in
+          ⊎-elim
+          (λ y. absurd (true≢false (cc (k, y, eq-eqb (now .fault p) 0 (sp .clean), ne-eqb p (owner t) ne))))
+          (λ y. y)
+          (both (receive p)))
 
 -- ---- the five kinds of step
 

@@ -1,5 +1,5 @@
 pub mod Slots
-pub mod Two
+pub mod Found
 pub mod Model
 pub mod Seat
 pub mod Invariant

@@ -5,9 +5,9 @@ use mathlib.Core.Path.{_≡_, refl, ap}
 use Prim.Native.Nat.{ℕ, zero, suc, _<_}
 use native.Mathlib.Omega.{arith}
 use lib.Dec.{eqb}
-use borrow.Author.Tests.{eqb-true, eqb-false, eq-eqb, ne-eqb, not-true, not-false}
-use Rattle.lists.specs.Counted.{allBelow}
-use Rattle.lists.proofs.Tests.{both, all-at, all-not}
+use borrow.Author.Tests.{eqb-true, eqb-false, eq-eqb, ne-eqb}
+use Rattle.lists.proofs.Tests.{both}
+use Rattle.demand3.proofs.Found.{found}
 use Rattle.demand3.proofs.Model.{State, Given, selfGone, ownerGone, newAck, owns, acts, rests, owner, role, leaves, drops, hold, step}
 use Rattle.demand3.proofs.Model.{Sound, Faulty, Terms}
 
@@ -32,14 +32,11 @@ pub data SomeSound (s : State) : Type 0 where
   none : ((p : ℕ) → Sound s p → ⊥) → SomeSound s
 
 pub some-sound : (s : State) → SomeSound s
-some-sound s =
-    ⊎-elim
-    (λ e. none (λ p sp. eqb-false (s .fault p) 0 (not-true _ (all-at unsound (s .n) p e (sp .seat))) (sp .clean)))
-    (λ e. let p = all-not unsound (s .n) e in some (p .0) (record { seat = p .1; clean = eqb-true _ _ (not-false _ (p .2)) }))
-    (both (allBelow (s .n) unsound))
+some-sound s = go (found (λ p. eqb (s .fault p) 0) (s .n))
   where
-    unsound : ℕ → Bool
-    unsound p = not (eqb (s .fault p) 0)
+    go : ((p : ℕ) × (p < s .n) × (eqb (s .fault p) 0 ≡ true)) ⊎ ((p : ℕ) → p < s .n → eqb (s .fault p) 0 ≡ false) → SomeSound s
+    go (inl (p, h, e)) = some p (record { seat = h; clean = eqb-true _ _ e })
+    go (inr h) = none (λ p sp. eqb-false (s .fault p) 0 (h p (sp .seat)) (sp .clean))
 
 -- ---- roles, and the sets after a step
 

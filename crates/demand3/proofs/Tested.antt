@@ -12,7 +12,7 @@ use Rattle.ring.specs.Ring.{seatOf}
 use Rattle.ring.specs.Terms.{faultyBy, distance, apartBy, termsHold}
 use Rattle.ring.specs.declared.Ring.{Ring}
 use Rattle.demand3.specs.Faults.{FirstFault, Apart, SoundAfter, TwoSound, TermsHold}
-use Rattle.demand3.proofs.Two.{two-counted, counted-two}
+use Rattle.demand3.proofs.Found.{two-counted, counted-two}
 
 -- ---- the test of two seats: are they one, is each faulty by the step, are the first faults far enough
 

@@ -1,14 +1,26 @@
--- At least two numbers below a count pass a test: the count says so, and two of them show it. Assumes nothing.
+-- A number below a count that passes a test, if there is one; and at least two, by their count. Assumes nothing.
 use mathlib.Core.Bool.{Bool, true, false, cond}
-use mathlib.Core.Logic.{⊎-elim}
-use mathlib.Core.Path.{_≡_}
+use mathlib.Core.Logic.{_⊎_, inl, inr, ⊎-elim}
+use mathlib.Core.Path.{_≡_, ap, _∙_}
 use Prim.Native.Nat.{ℕ, zero, suc, _+_, _≤_, _<_}
 use native.Mathlib.Omega.{arith}
 use Rattle.lists.specs.Counted.{countBelow}
-use Rattle.lists.proofs.Counted.{sum-le}
+use Rattle.lists.proofs.Counted.{below-last, sum-le}
 use Rattle.lists.proofs.Tests.{both}
 
 module _ (f : ℕ → Bool) where
+  -- one passes, or none does
+  pub found : (k : ℕ) → ((p : ℕ) × (p < k) × (f p ≡ true)) ⊎ ((p : ℕ) → p < k → f p ≡ false)
+  found zero = inr (λ p l. absurd (omega arith))
+  found (suc k) = ⊎-elim (λ e. inl (k, omega arith, e)) (λ e. go e (found k)) (both (f k))
+    where
+      go : f k ≡ false → ((p : ℕ) × (p < k) × (f p ≡ true)) ⊎ ((p : ℕ) → p < k → f p ≡ false)
+          → ((p : ℕ) × (p < suc k) × (f p ≡ true)) ⊎ ((p : ℕ) → p < suc k → f p ≡ false)
+      go e (inl (p, l, h)) = inl (p, omega arith, h)
+      go e (inr h) = inr (λ p l. ⊎-elim (λ m. h p m) (λ q. ap f q ∙ e) (below-last p k l))
+
+  -- ---- counted
+
   counts : (k : ℕ) → f k ≡ true → countBelow (suc k) f ≡ countBelow k f + 1
   counts k e = rw e
 
