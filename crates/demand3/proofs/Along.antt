@@ -11,7 +11,7 @@ use Rattle.ring.specs.declared.slot.Seat.{Seat}
 use Rattle.steps.specs.Run.{Marks, Bench, Reached}
 use Rattle.steps.proofs.Drawn.{undrawn-seat}
 use Rattle.steps.proofs.Reached.{fresh-n, fresh-seat, benchAfter, reached-elim}
-use Rattle.demand3.proofs.Model.{Given, Fresh, Terms, step}
+use Rattle.demand3.specs.Model.{Given, Fresh, Terms, step}
 use Rattle.demand3.proofs.Seat.{back-terms}
 use Rattle.demand3.proofs.Kept.{Kept, fresh-kept, step-kept}
 use Rattle.demand3.proofs.View.{stateOf, givenOf, EmptyBeyond, empty-after, state-after}

@@ -13,7 +13,7 @@ use Rattle.steps.proofs.Valid.{valid-ring}
 use Rattle.steps.proofs.Reached.{benchAfter, step-after, reached-stands}
 use Rattle.demand3.specs.Faults.{FirstFault, Apart, TermsHold}
 use Rattle.demand3.specs.Verdict.{TermsKept}
-use Rattle.demand3.proofs.Model.{State, Faulty, Terms}
+use Rattle.demand3.specs.Model.{State, Faulty, Terms}
 use Rattle.demand3.proofs.Seat.{stays-faulty}
 use Rattle.demand3.proofs.View.{stateOf, givenOf, state-after}
 use Rattle.demand3.proofs.Along.{along}

@@ -1,6 +1,5 @@
 pub mod Slots
 pub mod Found
-pub mod Model
 pub mod Seat
 pub mod Invariant
 pub mod Moves

@@ -7,7 +7,7 @@ use native.Mathlib.Omega.{arith}
 use lib.Dec.{eqb}
 use borrow.Author.Tests.{eq-eqb, ne-eqb}
 use Rattle.lists.proofs.Tests.{both}
-use Rattle.demand3.proofs.Model.{State, Given, acts, role, arrived, leaves, hold, Sound, Faulty}
+use Rattle.demand3.specs.Model.{State, Given, acts, role, arrived, leaves, hold, Sound, Faulty}
 use Rattle.demand3.proofs.Seat.{same?, role-act, act-other, act-owner, differ, back-sound}
 use Rattle.demand3.proofs.Invariant.{Holds, Active, active, Pending, Inv}
 use Rattle.demand3.proofs.Moves.{Move, o, later, sees, Hears, hears, role-sound}

@@ -1,5 +1,6 @@
 -- What every kind of step shares: a seat that is out or alone stays so, first faults are spaced, and what is left to show that the invariant
 -- is kept, by a step with a first fault and by one without. Assumes nothing.
+-- Names, here and in the kinds of step: `so` and `sp` say that the owner and p are sound, `fx` that x is faulty, `e..` are equations.
 use mathlib.Core.Bool.{Bool, true, false, not, _||_, false≢true, true≢false}
 use mathlib.Core.Logic.{_⊎_, inl, inr, ⊎-elim}
 use mathlib.Core.Path.{_≡_, refl, sym, _∙_, ap}
@@ -9,7 +10,7 @@ use native.Mathlib.Omega.{arith}
 use lib.Dec.{ltb}
 use borrow.Author.Tests.{ltb-true, ltb-false}
 use Rattle.lists.proofs.Tests.{both}
-use Rattle.demand3.proofs.Model.{State, Given, owns, acts, owner, role, arrived, hold, step, Sound, Faulty, Terms}
+use Rattle.demand3.specs.Model.{State, Given, owns, acts, owner, role, arrived, hold, step, Sound, Faulty, Terms}
 use Rattle.demand3.proofs.Seat.{same?, Kind, sound, faulty, kind, differ, stays-faulty, unheld, held}
 use Rattle.demand3.proofs.Seat.{role-own, role-act, role-out, role-blind, still, own-set, act-nobody, agree-stays, agree-keeps, agree-acks}
 use Rattle.demand3.proofs.Invariant.{Holds, Alone, Ahead, Active, Latest, gone, alone, active, Pending, Low, NoneSound, Top, Passed, Inv, soon, settle}
@@ -28,6 +29,7 @@ module _ (m : Move) where
   open Given given using (now)
   open State now using (n, time, set)
 
+  -- the slot's owner, and the state after the step
   abbrev pub o : ℕ
   o = owner given
 

@@ -16,7 +16,7 @@ use Rattle.ring.specs.declared.Ring.{Ring}
 use Rattle.steps.specs.Valid.{Valid}
 use Rattle.demand3.specs.Faults.{SoundSeat, FirstFault}
 use Rattle.demand3.specs.Demand.{Agreement}
-use Rattle.demand3.proofs.Model.{Sound, Faulty, Agrees}
+use Rattle.demand3.specs.Model.{Sound, Faulty, Agrees}
 use Rattle.demand3.proofs.Seat.{same?}
 use Rattle.demand3.proofs.View.{stateOf}
 

@@ -6,7 +6,7 @@ use Prim.Native.Nat.{ℕ, suc, _+_, _<_}
 use native.Mathlib.Omega.{arith}
 use borrow.Author.Tests.{eq-eqb, ne-eqb}
 use Rattle.demand3.proofs.Slots.{once, again}
-use Rattle.demand3.proofs.Model.{State, Given, acts, role, speaks, arrived, leaves, drops, learns, hold, Sound, Faulty}
+use Rattle.demand3.specs.Model.{State, Given, acts, role, speaks, arrived, leaves, drops, learns, hold, Sound, Faulty}
 use Rattle.demand3.proofs.Seat.{same?, role-own, role-act, own-set, act-other, act-owner, stays-faulty, differ, back-sound}
 use Rattle.demand3.proofs.Seat.{deaf-stays, deaf-drops, deaf-acks}
 use Rattle.demand3.proofs.Invariant.{Holds, Latest, gone, alone, active, Pending, Low, Inv, soon}

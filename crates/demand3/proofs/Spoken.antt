@@ -6,7 +6,7 @@ use Prim.Native.Nat.{ℕ, suc, _+_, _<_}
 use native.Mathlib.Omega.{arith}
 use Rattle.lists.proofs.Tests.{both}
 use Rattle.demand3.proofs.Slots.{once}
-use Rattle.demand3.proofs.Model.{State, Given, acts, role, arrived, leaves, drops, learns, hold, Sound, Faulty}
+use Rattle.demand3.specs.Model.{State, Given, acts, role, arrived, leaves, drops, learns, hold, Sound, Faulty}
 use Rattle.demand3.proofs.Seat.{same?, role-own, role-act, role-blind, Still, still, act-other, act-owner, act-self, differ, back-sound}
 use Rattle.demand3.proofs.Seat.{low-leaves, deaf-stays, deaf-drops, deaf-acks}
 use Rattle.demand3.proofs.Invariant.{Holds, Active, Latest, gone, alone, active, Pending, Inv}

@@ -22,8 +22,8 @@ use Rattle.ring.specs.declared.table.Removal.{Removal}
 use Rattle.ring.specs.declared.table.Removal.the-variants.{Nobody, Itself, Owner, Both}
 use Rattle.steps.proofs.Turn.{turn-elim}
 use Rattle.steps.proofs.After.{seat-after, seat-beyond}
-use Rattle.demand3.proofs.Model.{State, Given, selfGone, ownerGone, newAck, first, owns, acts, rests, role}
-use Rattle.demand3.proofs.Model.{speaks, leaves, drops, learns, hold, left, step}
+use Rattle.demand3.specs.Model.{State, Given, selfGone, ownerGone, newAck, first, owns, acts, rests, role}
+use Rattle.demand3.specs.Model.{speaks, leaves, drops, learns, hold, left, step}
 use Rattle.demand3.proofs.Seat.{same?, role-own, role-act, role-out, role-blind, Still, still}
 
 abbrev pub stateOf : Ring → State

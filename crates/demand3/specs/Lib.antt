@@ -5,3 +5,4 @@ pub mod Runs
 pub mod Example
 pub mod Tight
 pub mod Late
+pub mod Model

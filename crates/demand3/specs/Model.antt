@@ -1,4 +1,5 @@
--- The rules of document 01 over functions of the seats, for any n: what the engine's ring is read as while agreement is proved. Assumes nothing.
+-- The rules of document 01 once more, over functions of the seats: the model in which agreement is argued. What is promised does not rest on
+-- reading it: proofs/View.antt shows that the engine's step is this one.
 use mathlib.Core.Bool.{Bool, true, false, not, _&&_, cond}
 use mathlib.Core.Logic.{_⊎_}
 use mathlib.Core.Path.{_≡_}
