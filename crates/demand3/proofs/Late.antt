@@ -9,7 +9,7 @@ use Rattle.lists.proofs.Tests.{both}
 use Rattle.demand3.specs.Runs.{beforeOwn, afterOwn, beforeOut, afterOut}
 use Rattle.demand3.specs.Late.{RemovedInOwnSlot, LateAtMost, Latest}
 use Rattle.demand3.proofs.Slots.{own-slot, once}
-use Rattle.demand3.proofs.Runs.{is-n, is-time, is-sound, is-fault, is-in}
+use Rattle.demand3.proofs.Runs.{is-n, is-time, is-sound, is-fault, is-in, is-within}
 
 pub removed-in-own-slot : RemovedInOwnSlot
 removed-in-own-slot r a p x t k sp fx low high own =
@@ -31,6 +31,8 @@ pub latest : Latest
 latest = record {
   sound = is-sound afterOwn 0 refl refl;
   from-theirs = record {
+    longer = refl;
+    within = is-within afterOwn (omega arith) (omega arith) refl;
     fault-before = is-fault beforeOwn 3 0 refl refl;
     time-before = omega (arith, is-n beforeOwn, is-time beforeOwn);
     still-in = is-in beforeOwn 0 3 refl;
@@ -39,6 +41,8 @@ latest = record {
     left = is-in afterOwn 0 3 refl;
   };
   from-its-own = record {
+    longer = refl;
+    within = is-within afterOut (omega arith) (omega arith) refl;
     fault-before = is-fault beforeOut 1 0 refl refl;
     time-before = omega (arith, is-n beforeOut, is-time beforeOut);
     still-in = is-in beforeOut 1 1 refl;

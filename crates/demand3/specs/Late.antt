@@ -1,5 +1,6 @@
 -- How late a removal can be, as a site is told.
 use mathlib.Core.Bool.{true, false}
+use mathlib.Core.List.{[], _∷_, _++_}
 use mathlib.Core.Path.{_≡_}
 use Prim.Native.Nat.{ℕ, _+_, _%_, _≤_, _<_}
 use lib.Dec.{leb}
@@ -7,8 +8,8 @@ use Rattle.seats.specs.Sets.{hasSeat}
 use Rattle.ring.specs.Ring.{seatOf}
 use Rattle.ring.specs.declared.Ring.{Ring}
 use Rattle.demand3.specs.Faults.{SoundSeat, FirstFault}
-use Rattle.demand3.specs.Demand.{Agreement}
-use Rattle.demand3.specs.Runs.{Run, beforeOwn, afterOwn, beforeOut, afterOut, lastRing}
+use Rattle.demand3.specs.Demand.{Agreement, RunWithin}
+use Rattle.demand3.specs.Runs.{Run, beforeOwn, afterOwn, beforeOut, afterOut, quiet, seatsIn, stepsOf, trailOfRun, lastRing}
 
 -- where k is the first own slot of seat x from its first fault t on, x is in a sound seat's set up to slot k, and no longer
 abbrev pub RemovedInOwnSlot : Type 0
@@ -22,8 +23,11 @@ LateAtMost =
     (r : Ring) → Agreement r → (p x t : ℕ) → SoundSeat r p → FirstFault r x t → t + r .n ≤ r .time
     → hasSeat (seatOf r p .set) x ≡ false
 
--- seat x, with its first fault at t, is in seat p's set after slot t + n - 2 of the one run, and not after slot t + n - 1 of the other
+-- run b is run a and one step more, within the terms: seat x, with its first fault at t, is in seat p's set after slot t + n - 2, and not
+-- after slot t + n - 1
 pub record ExactlyLate (a b : Run) (p x t : ℕ) : Type 0 where
+  pub longer : stepsOf b ≡ stepsOf a ++ (quiet ∷ [])
+  pub within : RunWithin (seatsIn b) trailOfRun (stepsOf b)
   pub fault-before : FirstFault (lastRing a) x t
   pub time-before : lastRing a .time + 1 ≡ t + lastRing a .n
   pub still-in : hasSeat (seatOf (lastRing a) p .set) x ≡ true

@@ -12,7 +12,7 @@ use Rattle.ring.specs.declared.slot.Seat.{Seat}
 use Rattle.steps.specs.Run.{Marks, freshBench, runOn}
 
 -- a step without marks, with a send mark, with a receive mark for one seat
-abbrev quiet : Marks
+abbrev pub quiet : Marks
 quiet = record { send = false; receive = 0 }
 
 abbrev sendFault : Marks
