@@ -1,8 +1,8 @@
 -- How late a removal can be, as a site is told.
-use mathlib.Core.Bool.{true, false}
+use mathlib.Core.Bool.{Bool, true, false}
 use mathlib.Core.List.{[], _∷_, _++_}
 use mathlib.Core.Path.{_≡_}
-use Prim.Native.Nat.{ℕ, _+_, _%_, _≤_, _<_}
+use Prim.Native.Nat.{ℕ, _+_, _-_, _%_, _≤_, _<_}
 use lib.Dec.{leb}
 use Rattle.seats.specs.Sets.{hasSeat}
 use Rattle.ring.specs.Ring.{seatOf}
@@ -23,17 +23,18 @@ LateAtMost =
     (r : Ring) → Agreement r → (p x t : ℕ) → SoundSeat r p → FirstFault r x t → t + r .n ≤ r .time
     → hasSeat (seatOf r p .set) x ≡ false
 
--- run b is run a and one step more, within the terms: seat x, with its first fault at t, is in seat p's set after slot t + n - 2, and not
--- after slot t + n - 1
+-- k slots from its first fault t on have been stepped: is seat x then in seat p's set
+pub record After (a : Run) (p x t k : ℕ) (has : Bool) : Type 0 where
+  pub fault : FirstFault (lastRing a) x t
+  pub time : lastRing a .time ≡ t + k
+  pub holds : hasSeat (seatOf (lastRing a) p .set) x ≡ has
+
+-- run b is run a and one step more, within the terms: x is in the set after n - 1 slots, and not after n
 pub record ExactlyLate (a b : Run) (p x t : ℕ) : Type 0 where
   pub longer : stepsOf b ≡ stepsOf a ++ (quiet ∷ [])
   pub within : RunWithin (seatsIn b) trailOfRun (stepsOf b)
-  pub fault-before : FirstFault (lastRing a) x t
-  pub time-before : lastRing a .time + 1 ≡ t + lastRing a .n
-  pub still-in : hasSeat (seatOf (lastRing a) p .set) x ≡ true
-  pub fault-after : FirstFault (lastRing b) x t
-  pub time-after : lastRing b .time ≡ t + lastRing b .n
-  pub left : hasSeat (seatOf (lastRing b) p .set) x ≡ false
+  pub before : After a p x t (seatsIn a - 1) true
+  pub after : After b p x t (seatsIn b) false
 
 -- n - 1 slots late in the sound seats' sets (n = 4), and in the faulty seat's own (n = 3)
 pub record Latest : Type 0 where
