@@ -16,7 +16,7 @@ const NEAR: &[u8] = b"0123456789 \nSRD-\r\tsrd+./:,\0";
 /// A sheet at random: half of them good, the others damaged or no sheets at all.
 pub fn sheet(random: &mut Random) -> Vec<u8> {
     match random.below(32) {
-        0 => (0..random.below(40)).map(|_| random.next() as u8).collect(),
+        0 => (0..random.below(40)).map(|_| random.draw() as u8).collect(),
         1 => (0..random.below(60)).map(|_| random.pick(NEAR)).collect(),
         2..=17 => to_bytes(&good(random)),
         _ => {
@@ -59,7 +59,7 @@ fn place(random: &mut Random, length: usize) -> usize {
 /// Changes, inserts or removes one byte.
 fn damage_byte(random: &mut Random, bytes: &mut Vec<u8>) {
     let at = place(random, bytes.len());
-    let byte = if random.once_in(4) { random.next() as u8 } else { random.pick(NEAR) };
+    let byte = if random.once_in(4) { random.draw() as u8 } else { random.pick(NEAR) };
     match random.below(3) {
         0 if at < bytes.len() => bytes[at] = byte,
         1 if at < bytes.len() => drop(bytes.remove(at)),

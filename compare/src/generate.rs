@@ -175,8 +175,8 @@ fn differ(random: &mut Random, slots: &mut [Option<bool>]) {
     const HEARD: [Option<bool>; 3] = [None, Some(false), Some(true)];
     let first = random.below(slots.len());
     let spoken = slots[first];
-    let other = HEARD.into_iter().cycle().skip_while(|&heard| heard != spoken);
-    slots[first] = other.skip(random.within(1..=2)).next().flatten();
+    let others: Vec<_> = HEARD.into_iter().filter(|&heard| heard != spoken).collect();
+    slots[first] = random.pick(&others);
     if random.once_in(2) {
         slots[first + 1..].fill_with(|| random.pick(&HEARD));
     }

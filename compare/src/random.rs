@@ -12,10 +12,10 @@ impl Random {
 
     /// The generator for the sheet with this number, so that each one can be had without those before it.
     pub fn for_sheet(seed: u64, number: u64) -> Random {
-        Random(Random(seed ^ number.wrapping_mul(0xd134_2543_de82_ef95)).next())
+        Random(Random(seed ^ number.wrapping_mul(0xd134_2543_de82_ef95)).draw())
     }
 
-    pub fn next(&mut self) -> u64 {
+    pub fn draw(&mut self) -> u64 {
         self.0 = self.0.wrapping_add(0x9e37_79b9_7f4a_7c15);
         let mut z = self.0;
         z = (z ^ (z >> 30)).wrapping_mul(0xbf58_476d_1ce4_e5b9);
@@ -25,7 +25,7 @@ impl Random {
 
     /// A number below the bound, which is above 0. (Slightly uneven for large bounds, which is no matter here.)
     pub fn below(&mut self, bound: usize) -> usize {
-        (self.next() % bound as u64) as usize
+        (self.draw() % bound as u64) as usize
     }
 
     pub fn within(&mut self, range: RangeInclusive<usize>) -> usize {
@@ -49,7 +49,7 @@ mod tests {
     #[test]
     fn gives_the_known_numbers_of_splitmix64() {
         let mut random = Random::new(1_234_567);
-        assert_eq!(random.next(), 6_457_827_717_110_365_317);
-        assert_eq!(random.next(), 3_203_168_211_198_807_973);
+        assert_eq!(random.draw(), 6_457_827_717_110_365_317);
+        assert_eq!(random.draw(), 3_203_168_211_198_807_973);
     }
 }

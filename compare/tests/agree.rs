@@ -192,7 +192,7 @@ fn exhaustive() -> Vec<Job> {
     jobs
 }
 
-/// Does all jobs on as many threads as there are processors; the result is the tally or the differences.
+/// Does all jobs on as many threads as there are processors, up to the first difference.
 fn run_all(jobs: &[Job]) -> Result<Tally, Vec<String>> {
     let next = AtomicUsize::new(0);
     let results: Mutex<(Tally, Vec<String>)> = Mutex::default();
@@ -202,7 +202,10 @@ fn run_all(jobs: &[Job]) -> Result<Tally, Vec<String>> {
             let mut results = results.lock().expect("no thread has failed");
             match result {
                 Ok(tally) => results.0.add(&tally),
-                Err(difference) => results.1.push(difference),
+                Err(difference) => {
+                    results.1.push(difference);
+                    next.fetch_max(jobs.len(), Ordering::Relaxed);
+                }
             }
         }
     };
@@ -249,7 +252,7 @@ fn main() -> ExitCode {
                 }
             }
             Err(differences) => {
-                println!("  {} parts of {} with a difference; the first:\n{}", differences.len(), jobs.len(), differences[0]);
+                println!("{}", differences.join("\n"));
                 return ExitCode::FAILURE;
             }
         }
