@@ -58,12 +58,12 @@ pub fn good(random: &mut Random) -> Sheet {
 
 /// Few slots in most sheets, all 4,096 in some.
 fn slot_count(random: &mut Random, n: usize) -> usize {
-    match random.below(128) {
-        0..=7 => random.within(0..=3),
-        8..=79 => random.within(0..=4 * n),
-        80..=120 => random.within(0..=160),
-        121..=124 => random.within(0..=800),
-        125..=126 => random.within(0..=MAX_TIME),
+    match random.below(1_000) {
+        0..=79 => random.within(0..=3),
+        80..=699 => random.within(0..=4 * n),
+        700..=989 => random.within(0..=160),
+        990..=996 => random.within(0..=800),
+        997..=998 => random.within(0..=MAX_TIME),
         _ => MAX_TIME,
     }
 }

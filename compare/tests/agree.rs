@@ -5,9 +5,9 @@
 //! KNELLNETTLE_SHEETS=NUMBER sets how many sheets each seed gives.
 
 use compare::generate::{hear, marks_numbered, slots_numbered, to_bytes};
-use compare::proved::{self, PAGE_BYTES};
+use compare::proved;
 use compare::random::Random;
-use compare::reader::Sheet;
+use compare::reader::{Mark, Sheet};
 use compare::damage;
 use std::process::ExitCode;
 use std::sync::atomic::{AtomicUsize, Ordering};
@@ -15,10 +15,13 @@ use std::sync::Mutex;
 use std::time::{Instant, SystemTime, UNIX_EPOCH};
 
 const FIXED_SEED: u64 = 20_261_115;
-const SHEETS_PER_SEED: u64 = 130_000;
+const SHEETS_PER_SEED: u64 = 110_000;
 
 /// Generated sheets are handed to the threads in parts of this size.
 const PART: u64 = 2_000;
+
+/// So many sheets are handed to the proved library together.
+const TOGETHER: usize = 64;
 
 /// The stack of a C program's main thread, for the proved library's sake.
 const STACK_BYTES: usize = 8 << 20;
@@ -86,86 +89,97 @@ impl Tally {
     }
 }
 
-/// The two sides with their buffers, which are not cleared between sheets.
+/// Sheets that wait to be compared together, each with what it is called.
+#[derive(Default)]
 struct Sides {
-    ours: Vec<u8>,
-    theirs: Vec<u8>,
+    sheets: Vec<Vec<u8>>,
+    names: Vec<String>,
     tally: Tally,
 }
 
 impl Sides {
-    fn new() -> Sides {
-        Sides { ours: Vec::new(), theirs: vec![0xaa; PAGE_BYTES], tally: Tally::default() }
+    /// Compares a sheet, now or with later ones.
+    fn compare(&mut self, name: impl FnOnce() -> String, sheet: Vec<u8>) -> Result<(), String> {
+        self.sheets.push(sheet);
+        self.names.push(name());
+        if self.sheets.len() < TOGETHER { Ok(()) } else { self.compare_waiting() }
     }
 
-    /// Compares both pages of a sheet. The result says how they differ, if they do.
-    fn compare(&mut self, sheet: &[u8]) -> Result<(), String> {
-        compare::print(sheet, &mut self.ours);
-        let theirs = proved::print(sheet, &mut self.theirs);
-        if theirs != Some(&self.ours) {
-            let theirs = theirs.map_or("no page".to_string(), |page| page.escape_ascii().to_string());
-            let ours = self.ours.escape_ascii();
-            return Err(format!("the pages differ\n  proved: {theirs}\n  compare: {ours}"));
-        }
-        self.tally.count(&self.ours);
-        Ok(())
+    /// Compares both pages of every sheet that waits. An error tells of the first difference.
+    fn compare_waiting(&mut self) -> Result<(), String> {
+        let mut ours = Vec::new();
+        let mut first = Ok(());
+        proved::print_all(&self.sheets, |number, theirs| {
+            compare::print(&self.sheets[number], &mut ours);
+            self.tally.count(&ours);
+            if theirs != Some(&ours) && first.is_ok() {
+                let theirs = theirs.map_or("none".to_string(), |page| page.escape_ascii().to_string());
+                let how = format!("the pages differ\n  proved: {theirs}\n  compare: {}", ours.escape_ascii());
+                first = Err(told(&self.names[number], &self.sheets[number], &how));
+            }
+        });
+        self.sheets.clear();
+        self.names.clear();
+        first
     }
+}
 
-    /// Compares both pages, and sees that the proved library keeps to the page buffer it is lent.
-    fn compare_with_buffers(&mut self, sheet: &[u8]) -> Result<(), String> {
-        self.compare(sheet)?;
-        let length = self.ours.len();
-        let mut lent = vec![0x55; length + 16];
-        if proved::print(sheet, &mut lent[..length]) != Some(&self.ours) {
-            return Err(format!("a buffer of just the page's {length} bytes gives another page"));
+/// Sees that the proved library answers by the length of the page buffer and writes nothing past it.
+fn compare_short_buffers(sheet: &[u8]) -> Result<(), String> {
+    let mut ours = Vec::new();
+    compare::print(sheet, &mut ours);
+    let length = ours.len();
+    let mut lent = vec![0x55; length + 16];
+    if proved::print(sheet, &mut lent[..length]) != Some(&ours) {
+        return Err(format!("a buffer of just the page's {length} bytes gives another page"));
+    }
+    for short in [length - 1, length / 2, 0] {
+        if proved::print(sheet, &mut lent[..short]).is_some() {
+            return Err(format!("a buffer of {short} bytes gives a page of {length}"));
         }
-        if proved::print(sheet, &mut lent[..length - 1]).is_some() {
-            return Err(format!("a buffer of {} bytes gives a page of {length}", length - 1));
-        }
-        match lent[length..].iter().all(|&byte| byte == 0x55) {
-            true => Ok(()),
-            false => Err("bytes past the lent buffer have changed".to_string()),
-        }
+    }
+    match lent[length..].iter().all(|&byte| byte == 0x55) {
+        true => Ok(()),
+        false => Err("bytes past the lent buffer have changed".to_string()),
     }
 }
 
 impl Job {
     fn run(self) -> Result<Tally, String> {
-        let mut sides = Sides::new();
+        let mut sides = Sides::default();
         match self {
             Job::Generated { seed, from, to } => {
                 for number in from..to {
+                    let name = || format!("seed {seed}, sheet {number}");
                     let sheet = damage::sheet(&mut Random::for_sheet(seed, number));
-                    let compared = match number % 8 {
-                        0 => sides.compare_with_buffers(&sheet),
-                        _ => sides.compare(&sheet),
-                    };
-                    compared.map_err(|how| told(&format!("seed {seed}, sheet {number}"), &sheet, &how))?;
+                    if number % 32 == 0 {
+                        compare_short_buffers(&sheet).map_err(|how| told(&name(), &sheet, &how))?;
+                    }
+                    sides.compare(name, sheet)?;
                 }
             }
             Job::EveryMark { n, slots, digits } => {
                 for number in 0..digits.pow((n * slots) as u32) {
                     let mut sheet = small(n, marks_numbered(n, slots, digits, number), vec![None; slots]);
                     hear(&mut sheet);
-                    let sheet = to_bytes(&sheet);
-                    sides.compare(&sheet).map_err(|how| told(&format!("{self:?}, marks {number}"), &sheet, &how))?;
+                    sides.compare(|| format!("{self:?}, marks {number}"), to_bytes(&sheet))?;
                 }
             }
             Job::EverySlot { n, slots } => {
                 for marks in 0..2u64.pow((n * slots) as u32) {
                     for heard in 0..3u64.pow(slots as u32) {
-                        let sheet = to_bytes(&small(n, marks_numbered(n, slots, 2, marks), slots_numbered(slots, heard)));
-                        let what = format!("{self:?}, marks {marks}, slots {heard}");
-                        sides.compare(&sheet).map_err(|how| told(&what, &sheet, &how))?;
+                        let sheet = small(n, marks_numbered(n, slots, 2, marks), slots_numbered(slots, heard));
+                        sides.compare(|| format!("{self:?}, marks {marks}, slots {heard}"), to_bytes(&sheet))?;
                     }
                 }
             }
         }
+        sides.compare_waiting()?;
         Ok(sides.tally)
     }
 }
 
-fn small(n: usize, marks: Vec<compare::reader::Mark>, slots: Vec<Option<bool>>) -> Sheet {
+fn small(n: usize, marks: Vec<Mark>, slots: Vec<Option<bool>>) -> Sheet {
     Sheet { modules: (1..=n as u16).map(|seat| 100 * seat).collect(), marks, slots }
 }
 
@@ -183,7 +197,7 @@ fn generated(seed: u64, sheets: u64) -> Vec<Job> {
 /// All marks and slots of small rings.
 fn exhaustive() -> Vec<Job> {
     let mut jobs = Vec::new();
-    for (n, digits, most_slots) in [(2, 3, 5), (3, 3, 3), (2, 2, 8), (3, 2, 6), (4, 2, 4), (5, 2, 3)] {
+    for (n, digits, most_slots) in [(2, 3, 4), (3, 3, 3), (2, 2, 7), (3, 2, 5), (4, 2, 3)] {
         jobs.extend((0..=most_slots).map(|slots| Job::EveryMark { n, slots, digits }));
     }
     for (n, most_slots) in [(2, 4), (3, 3)] {

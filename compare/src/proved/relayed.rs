@@ -1,0 +1,108 @@
+//! The proved library where it runs in a program of its own, under an emulator.
+
+use super::PAGE_BYTES;
+use std::cell::RefCell;
+use std::io::{self, BufReader, Read, Write};
+use std::process::{Child, ChildStdin, ChildStdout, Command, Stdio};
+
+/// A running relay (relay/relay.c); it ends when its input is closed.
+struct Relay {
+    child: Child,
+    requests: ChildStdin,
+    answers: BufReader<ChildStdout>,
+    unsent: Vec<u8>,
+}
+
+thread_local! {
+    /// Each thread has its own.
+    static RELAY: RefCell<Option<Relay>> = const { RefCell::new(None) };
+}
+
+/// The bytes of a request before its sheet.
+const HEAD: usize = 12;
+
+/// Requests are sent together only up to so many bytes, which a pipe takes without being read:
+/// the relay may wait for its answers to be read before it reads on.
+const TOGETHER: usize = 1 << 15;
+
+/// The page's length, or 0 where it does not fit.
+pub fn page(sheet: &[u8], page: &mut [u8]) -> usize {
+    with_relay(|relay| {
+        relay.ask(sheet, page.len(), true);
+        relay.send()?;
+        relay.answer(page)
+    })
+}
+
+/// Hands out the page of each sheet, an empty one where it does not fit.
+pub fn pages(sheets: &[Vec<u8>], mut each: impl FnMut(usize, &[u8])) {
+    let mut buffer = [0xaa; PAGE_BYTES];
+    let mut from = 0;
+    while from < sheets.len() {
+        let mut to = from + 1;
+        let mut bytes = sheets[from].len();
+        while to < sheets.len() && bytes + sheets[to].len() + HEAD * (to - from + 1) <= TOGETHER {
+            bytes += sheets[to].len();
+            to += 1;
+        }
+        with_relay(|relay| {
+            for number in from..to {
+                relay.ask(&sheets[number], PAGE_BYTES, number + 1 == to);
+            }
+            relay.send()
+        });
+        for number in from..to {
+            let length = with_relay(|relay| relay.answer(&mut buffer));
+            each(number, &buffer[..length]);
+        }
+        from = to;
+    }
+}
+
+/// Does something with the thread's relay, which is started where it is not running yet.
+fn with_relay<T>(what: impl FnOnce(&mut Relay) -> io::Result<T>) -> T {
+    RELAY.with_borrow_mut(|relay| {
+        let relay = relay.get_or_insert_with(Relay::start);
+        what(relay).unwrap_or_else(|why| panic!("the relay gives no page: {why}; {:?}", relay.child.wait()))
+    })
+}
+
+impl Relay {
+    /// Starts the relay as the kit starts a program: by its emulator, loader and C library.
+    fn start() -> Relay {
+        let toolchain = env!("KNELLNETTLE_TOOLCHAIN");
+        let mut child = Command::new(format!("{toolchain}/bin/qemu-x86_64"))
+            .arg(format!("{toolchain}/lib/ld-linux-x86-64.so.2"))
+            .args(["--library-path", &format!("{toolchain}/lib"), env!("KNELLNETTLE_RELAY")])
+            .stdin(Stdio::piped())
+            .stdout(Stdio::piped())
+            .spawn()
+            .expect("the kit's emulator starts");
+        let requests = child.stdin.take().expect("its input is a pipe");
+        let answers = BufReader::with_capacity(1 << 15, child.stdout.take().expect("its output is a pipe"));
+        Relay { child, requests, answers, unsent: Vec::new() }
+    }
+
+    /// Puts a request with those to be sent.
+    fn ask(&mut self, sheet: &[u8], page_length: usize, waited_for: bool) {
+        for number in [sheet.len(), page_length, usize::from(waited_for)] {
+            self.unsent.extend((number as u32).to_le_bytes());
+        }
+        self.unsent.extend(sheet);
+    }
+
+    fn send(&mut self) -> io::Result<()> {
+        self.requests.write_all(&self.unsent)?;
+        self.unsent.clear();
+        Ok(())
+    }
+
+    /// Reads the answer to the oldest request without one; the result is the page's length.
+    fn answer(&mut self, page: &mut [u8]) -> io::Result<usize> {
+        let mut length = [0; 4];
+        self.answers.read_exact(&mut length)?;
+        let length = u32::from_le_bytes(length) as usize;
+        self.answers.read_exact(&mut page[..length])?;
+        Ok(length)
+    }
+}
