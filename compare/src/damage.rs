@@ -5,9 +5,40 @@ use crate::random::Random;
 
 /// Numbers at and past the limits of a sheet, and numbers that are written wrongly.
 const NUMBERS: [&str; 34] = [
-    "0", "1", "2", "3", "9", "10", "31", "32", "33", "99", "100", "255", "256", "257", "999", "1000", "4094",
-    "4095", "4096", "4097", "9999", "10000", "65534", "65535", "65536", "99999", "100000", "4294967298", "00",
-    "01", "02", "000000", "", "-1",
+    "0",
+    "1",
+    "2",
+    "3",
+    "9",
+    "10",
+    "31",
+    "32",
+    "33",
+    "99",
+    "100",
+    "255",
+    "256",
+    "257",
+    "999",
+    "1000",
+    "4094",
+    "4095",
+    "4096",
+    "4097",
+    "9999",
+    "10000",
+    "65534",
+    "65535",
+    "65536",
+    "99999",
+    "100000",
+    "4294967298",
+    "00",
+    "01",
+    "02",
+    "000000",
+    "",
+    "-1",
 ];
 
 /// Bytes that stand somewhere in a good sheet, or nearly do.
@@ -53,7 +84,11 @@ fn damage(random: &mut Random, bytes: &mut Vec<u8>) {
 /// A place below a length, the first ones more often: there the counts and modules stand.
 fn place(random: &mut Random, length: usize) -> usize {
     let bound = if random.once_in(2) { length.min(48) } else { length };
-    if bound == 0 { 0 } else { random.below(bound) }
+    if bound == 0 {
+        0
+    } else {
+        random.below(bound)
+    }
 }
 
 /// Changes, inserts or removes one byte.

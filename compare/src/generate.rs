@@ -1,10 +1,10 @@
 //! Good sheets, made at random or one after another, with what their bus recorder should have heard.
 
+use crate::page::TRAIL_BYTES;
 use crate::random::Random;
 use crate::reader::{Kind, Mark, Sheet};
 use crate::ring::{Ring, StepMarks, MAX_SEATS, MAX_TIME};
 use crate::run::Schedule;
-use crate::page::TRAIL_BYTES;
 use std::collections::BTreeMap;
 
 const MAX_MARKS: usize = 256;

@@ -4,11 +4,11 @@
 //! KNELLNETTLE_SEED=NUMBER repeats a run whose seed was taken from the clock, and
 //! KNELLNETTLE_SHEETS=NUMBER sets how many sheets each seed gives.
 
+use compare::damage;
 use compare::generate::{hear, marks_numbered, slots_numbered, to_bytes};
 use compare::proved;
 use compare::random::Random;
 use compare::reader::{Mark, Sheet};
-use compare::damage;
 use std::process::ExitCode;
 use std::sync::atomic::{AtomicUsize, Ordering};
 use std::sync::Mutex;
@@ -102,7 +102,11 @@ impl Sides {
     fn compare(&mut self, name: impl FnOnce() -> String, sheet: Vec<u8>) -> Result<(), String> {
         self.sheets.push(sheet);
         self.names.push(name());
-        if self.sheets.len() < TOGETHER { Ok(()) } else { self.compare_waiting() }
+        if self.sheets.len() < TOGETHER {
+            Ok(())
+        } else {
+            self.compare_waiting()
+        }
     }
 
     /// Compares both pages of every sheet that waits. An error tells of the first difference.
@@ -230,7 +234,11 @@ fn run_all(jobs: &[Job]) -> Result<Tally, Vec<String>> {
         }
     });
     let (tally, differences) = results.into_inner().expect("no thread has failed");
-    if differences.is_empty() { Ok(tally) } else { Err(differences) }
+    if differences.is_empty() {
+        Ok(tally)
+    } else {
+        Err(differences)
+    }
 }
 
 /// A number from the environment, or another one where it is not set.

@@ -1,7 +1,7 @@
 //! The benchmark: the longest good sheet, run by the proved library and by this package.
 
 use compare::generate::{longest, to_bytes};
-use compare::proved::{self, PAGE_BYTES};
+use compare::proved::{self, EMULATED, PAGE_BYTES};
 use std::hint::black_box;
 use std::process::ExitCode;
 use std::time::{Duration, Instant};
@@ -77,15 +77,28 @@ impl Bench {
             proved.push(self.time(Side::Proved, proved_runs));
             compare.push(self.time(Side::Compare, compare_runs));
         }
-        println!("sheet: 32 modules, 256 marks, 4096 slots, {} bytes; page: {} bytes", self.sheet.len(), self.compare_page.len());
+        println!(
+            "sheet: 32 modules, 256 marks, 4096 slots, {} bytes; page: {} bytes",
+            self.sheet.len(),
+            self.compare_page.len()
+        );
         println!("page buffers: lent once, not cleared between runs, on both sides");
         println!("{ROUNDS} rounds of each side in turn, {proved_runs} and {compare_runs} runs a round");
+        if EMULATED {
+            println!(
+                "this machine is not x86-64: the proved library runs in an emulator here, and its times say nothing"
+            );
+        }
         println!("                  median       least   (nanoseconds per run)");
         let (proved_median, proved_least) = middle_and_least(proved);
         let (compare_median, compare_least) = middle_and_least(compare);
         println!("proved       {proved_median:>11.0} {proved_least:>11.0}");
         println!("compare      {compare_median:>11.0} {compare_least:>11.0}");
-        println!("ratio proved / compare: {:.2} (of the least: {:.2})", proved_median / compare_median, proved_least / compare_least);
+        println!(
+            "ratio proved / compare: {:.2} (of the least: {:.2})",
+            proved_median / compare_median,
+            proved_least / compare_least
+        );
     }
 }
 
