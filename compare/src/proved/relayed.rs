@@ -37,26 +37,30 @@ pub fn page(sheet: &[u8], page: &mut [u8]) -> usize {
 /// Hands out the page of each sheet, an empty one where it does not fit.
 pub fn pages(sheets: &[Vec<u8>], mut each: impl FnMut(usize, &[u8])) {
     let mut buffer = [0xaa; PAGE_BYTES];
-    let mut from = 0;
-    while from < sheets.len() {
-        let mut to = from + 1;
-        let mut bytes = sheets[from].len();
-        while to < sheets.len() && bytes + sheets[to].len() + HEAD * (to - from + 1) <= TOGETHER {
-            bytes += sheets[to].len();
-            to += 1;
-        }
+    let mut number = 0;
+    while number < sheets.len() {
+        let together = how_many_together(&sheets[number..]);
         with_relay(|relay| {
-            for number in from..to {
-                relay.ask(&sheets[number], PAGE_BYTES, number + 1 == to);
+            for (k, sheet) in sheets[number..][..together].iter().enumerate() {
+                relay.ask(sheet, PAGE_BYTES, k + 1 == together);
             }
             relay.send()
         });
-        for number in from..to {
+        for _ in 0..together {
             let length = with_relay(|relay| relay.answer(&mut buffer));
             each(number, &buffer[..length]);
+            number += 1;
         }
-        from = to;
     }
+}
+
+/// How many of some sheets are asked for together: the first, and more while they are short enough.
+fn how_many_together(sheets: &[Vec<u8>]) -> usize {
+    let ends = sheets.iter().scan(0, |bytes, sheet| {
+        *bytes += HEAD + sheet.len();
+        Some(*bytes)
+    });
+    ends.take_while(|&end| end <= TOGETHER).count().max(1)
 }
 
 /// Does something with the thread's relay, which is started where it is not running yet.
