@@ -228,10 +228,23 @@ pub fn longest() -> Sheet {
     sheet
 }
 
+/// A sheet in which each seat in turn is silent in its own slot, n + 1 slots after the one before.
+///
+/// The fault terms hold until fewer than two seats are sound, and every removal is recorded.
+pub fn one_after_another(n: usize) -> Sheet {
+    let mark = |seat| Mark { time: (n + 1) * seat, seat, kind: Kind::Send };
+    let mut sheet = Sheet { slots: vec![None; n * (n + 2)], ..Sheet::default() };
+    sheet.modules = (0..n as u16).map(|seat| 65_535 - seat).collect();
+    sheet.marks = (0..n).map(mark).collect();
+    hear(&mut sheet);
+    sheet
+}
+
 #[cfg(test)]
 mod tests {
     use super::*;
     use crate::reader::read;
+    use crate::run::{run, Verdict};
 
     #[test]
     fn reading_what_was_written_gives_the_same_sheet() {
@@ -246,6 +259,15 @@ mod tests {
         let sheet = longest();
         assert_eq!(to_bytes(&sheet).len(), 10_956);
         assert_eq!(read(&to_bytes(&sheet)), Ok(sheet));
+    }
+
+    #[test]
+    fn seats_that_fail_n_plus_1_apart_stay_within_the_terms_while_two_are_sound() {
+        for n in 2..=MAX_SEATS {
+            let run = run(&to_bytes(&one_after_another(n)), &mut [0; TRAIL_BYTES]);
+            let verdict = Verdict { bus_differs: None, faults_outside: Some((n + 1) * (n - 2)) };
+            assert_eq!(run.answer, Ok(verdict));
+        }
     }
 
     #[test]

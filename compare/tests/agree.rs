@@ -5,10 +5,11 @@
 //! KNELLNETTLE_SHEETS=NUMBER sets how many sheets each seed gives.
 
 use compare::damage;
-use compare::generate::{hear, marks_numbered, slots_numbered, to_bytes};
+use compare::generate::{hear, longest, marks_numbered, one_after_another, slots_numbered, to_bytes};
 use compare::proved;
 use compare::random::Random;
 use compare::reader::{Mark, Sheet};
+use std::fmt;
 use std::process::ExitCode;
 use std::sync::atomic::{AtomicUsize, Ordering};
 use std::sync::Mutex;
@@ -39,6 +40,8 @@ enum Job {
     EveryMark { n: usize, slots: usize, digits: u64 },
     /// Every choice of send and receive marks with every choice of what the recorder heard.
     EverySlot { n: usize, slots: usize },
+    /// The longest good sheet and one with many records for every ring, whole, cut short and with a byte more.
+    Large,
 }
 
 /// What the pages were, so that a run which compares only refusals, say, does not pass.
@@ -86,6 +89,14 @@ impl Tally {
         let verdicts = [self.bus_differs, self.bus_agrees, self.faults_outside, self.faults_within];
         let kinds = self.refused[1..=7].iter().chain(&self.causes).chain(&verdicts);
         kinds.into_iter().all(|&times| times >= LEAST)
+    }
+}
+
+impl fmt::Display for Tally {
+    fn fmt(&self, f: &mut fmt::Formatter) -> fmt::Result {
+        writeln!(f, "  refused 1 to 7: {:?}; with a record of cause a to e: {:?}", &self.refused[1..=7], self.causes)?;
+        write!(f, "  bus agrees {}, differs {}; ", self.bus_agrees, self.bus_differs)?;
+        write!(f, "faults within {}, outside {}", self.faults_within, self.faults_outside)
     }
 }
 
@@ -177,6 +188,16 @@ impl Job {
                     }
                 }
             }
+            Job::Large => {
+                let many_records = (2..=32).map(one_after_another);
+                for (number, sheet) in many_records.chain([longest()]).map(|sheet| to_bytes(&sheet)).enumerate() {
+                    let cut = sheet[..sheet.len() - 1].to_vec();
+                    let more = [&sheet[..], b"\n"].concat();
+                    for sheet in [sheet, cut, more] {
+                        sides.compare(|| format!("large sheet {number}"), sheet)?;
+                    }
+                }
+            }
         }
         sides.compare_waiting()?;
         Ok(sides.tally)
@@ -198,9 +219,9 @@ fn generated(seed: u64, sheets: u64) -> Vec<Job> {
     (0..sheets).step_by(PART as usize).map(part).collect()
 }
 
-/// All marks and slots of small rings.
-fn exhaustive() -> Vec<Job> {
-    let mut jobs = Vec::new();
+/// Large sheets, and all marks and slots of small rings.
+fn directed() -> Vec<Job> {
+    let mut jobs = vec![Job::Large];
     for (n, digits, most_slots) in [(2, 3, 4), (3, 3, 3), (2, 2, 7), (3, 2, 5), (4, 2, 3)] {
         jobs.extend((0..=most_slots).map(|slots| Job::EveryMark { n, slots, digits }));
     }
@@ -259,7 +280,7 @@ fn main() -> ExitCode {
     let parts = [
         (format!("fixed seed {FIXED_SEED}"), generated(FIXED_SEED, sheets)),
         (format!("clock seed {clock_seed}"), generated(clock_seed, sheets)),
-        ("all marks and slots of small rings".to_string(), exhaustive()),
+        ("large sheets, and all marks and slots of small rings".to_string(), directed()),
     ];
     for (name, jobs) in parts {
         println!("{name}:");
@@ -267,7 +288,7 @@ fn main() -> ExitCode {
         match run_all(&jobs) {
             Ok(tally) => {
                 println!("  {} sheets, every page the same, {:.1} s", tally.sheets, start.elapsed().as_secs_f64());
-                println!("  {tally:?}");
+                println!("{tally}");
                 if name.contains("seed") && sheets >= SHEETS_PER_SEED && !tally.is_wide() {
                     println!("  but some kind of page was met fewer than {LEAST} times");
                     return ExitCode::FAILURE;

@@ -27,7 +27,7 @@ const TOGETHER: usize = 1 << 15;
 
 /// The page's length, or 0 where it does not fit.
 pub fn page(sheet: &[u8], page: &mut [u8]) -> usize {
-    with_relay(|relay| {
+    with_relay(sheet, |relay| {
         relay.ask(sheet, page.len(), true);
         relay.send()?;
         relay.answer(page)
@@ -40,14 +40,14 @@ pub fn pages(sheets: &[Vec<u8>], mut each: impl FnMut(usize, &[u8])) {
     let mut number = 0;
     while number < sheets.len() {
         let together = how_many_together(&sheets[number..]);
-        with_relay(|relay| {
+        with_relay(&sheets[number], |relay| {
             for (k, sheet) in sheets[number..][..together].iter().enumerate() {
                 relay.ask(sheet, PAGE_BYTES, k + 1 == together);
             }
             relay.send()
         });
         for _ in 0..together {
-            let length = with_relay(|relay| relay.answer(&mut buffer));
+            let length = with_relay(&sheets[number], |relay| relay.answer(&mut buffer));
             each(number, &buffer[..length]);
             number += 1;
         }
@@ -63,11 +63,15 @@ fn how_many_together(sheets: &[Vec<u8>]) -> usize {
     ends.take_while(|&end| end <= TOGETHER).count().max(1)
 }
 
-/// Does something with the thread's relay, which is started where it is not running yet.
-fn with_relay<T>(what: impl FnOnce(&mut Relay) -> io::Result<T>) -> T {
+/// Does something with the thread's relay, which is started where it is not running yet; a relay that
+/// fails is a failure of the proved library or of the emulator, and the sheet is told.
+fn with_relay<T>(sheet: &[u8], what: impl FnOnce(&mut Relay) -> io::Result<T>) -> T {
     RELAY.with_borrow_mut(|relay| {
         let relay = relay.get_or_insert_with(Relay::start);
-        what(relay).unwrap_or_else(|why| panic!("the relay gives no page: {why}; {:?}", relay.child.wait()))
+        what(relay).unwrap_or_else(|why| {
+            let ended = relay.child.wait();
+            panic!("the relay gives no page: {why}, {ended:?}\n  sheet: {}", sheet.escape_ascii())
+        })
     })
 }
 
