@@ -1,0 +1,5 @@
+pub mod Any
+pub mod Joined
+pub mod Gathering
+pub mod Running
+pub mod Examples
