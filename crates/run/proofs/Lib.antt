@@ -2,4 +2,5 @@ pub mod Any
 pub mod Joined
 pub mod Gathering
 pub mod Running
+pub mod Reading
 pub mod Examples

@@ -1,3 +1,4 @@
+-- `through`: each turn gathers a mark or takes a step, and what is left of the run comes to what the whole does. Assumes nothing.
 use borrow.Author.Needs.{needs}
 use mathlib.Core.Logic.{inl, inr, ⊎-elim}
 use native.Mathlib.Nat.{mod-lt}
@@ -17,18 +18,6 @@ use Rattle.run.specs.Run.{spokenOn, runSheet}
 use Rattle.run.proofs.Running.{bench, marksOn, Going, fresh-given, going-start, going-mark, going-over, spoken-given, going-differs, going-length, going-stops, going-on, leaves}
 use Rattle.run.proofs.through.Statement.{statement}
 use Rattle.run.proofs.through.Tie as tie
-use Rattle.run.proofs.through.Reads as reads
-use Rattle.run.proofs.through.Lts as lts
-use Rattle.ring.proofs.Ring.fresh.Reads as fresh-reads
-use Rattle.ring.proofs.Ring.step.Reads as step-reads
-use Rattle.ring.proofs.Ring.zero.Reads as zero-reads
-use Rattle.run.proofs.judged.Reads as judged-reads
-use Rattle.run.proofs.marks.given_by.Reads as given-by-reads
-use Rattle.run.proofs.marks.none_gathered.Reads as none-gathered-reads
-use Rattle.run.proofs.marks.slot_over.Reads as slot-over-reads
-use Rattle.run.proofs.marks.with_mark.Reads as with-mark-reads
-use Rattle.run.proofs.refused.Reads as refused-reads
-use Rattle.run.proofs.spoken.Reads as spoken-reads
 
 abbrev Inv-loop : tie.InvT-loop
 Inv-loop trail₀ sheet n modules ring₀ gathered₀ at₀ trail ring gathered at =
@@ -82,95 +71,74 @@ promise c =
     subst (λ (x : Given). StepPromise (l .loop .ring) (x .send) (x .receive) (l .loop .trail) (c .step .result) (c .step .last .1 .1 .1 .0))
     (c .before .before .before .before .before .before .before .given-by .ensures) (c .step .ensures)
 
--- src/lib.rt:83:20
 zero-requires : tie.Need-zero-requires Inv-loop μ-loop
 zero-requires c κs = search needs
 
--- src/lib.rt:83:20
 fresh-requires : tie.Need-fresh-requires Inv-loop μ-loop
 fresh-requires c κs = search needs
 
--- src/lib.rt:84:9
 none-gathered-requires : tie.Need-none-gathered-requires Inv-loop μ-loop
 none-gathered-requires c κs = search needs
 
--- src/lib.rt:86:5
 loop-holds : tie.Need-loop-holds Inv-loop μ-loop
 loop-holds c = let a = c .before .before .before .before .before .before in
     let e = fresh-given (a .args .t1) (a .pre) _ (c .before .before .fresh .ensures) in
     (rw (e, c .none-gathered .ensures) (going-start (a .args .t1) (a .args .trail .now)), refl)
 
--- src/lib.rt:89:24
 mul-mark : tie.Need-mul-mark Inv-loop μ-loop
 mul-mark c = search needs
 
--- src/lib.rt:89:24
 element-copy-out-mark : tie.Need-element-copy-out-mark Inv-loop μ-loop
 element-copy-out-mark c = search needs
 
--- src/lib.rt:90:17
 cast-if2 : tie.Need-cast-if2 Inv-loop μ-loop
 cast-if2 c = search needs
 
--- src/lib.rt:91:17
 with-mark-requires : tie.Need-with-mark-requires Inv-loop μ-loop
 with-mark-requires c κs = let l = c .before .before .before .before .before in
     let good = start l .pre in
     let t = c .before .before .before .if1 .taken in
     (omega (arith, good .marked), omega (arith, good .marked-seats (l .loop .gathered .next) t, good .seats))
 
--- src/lib.rt:86:5
 loop-less : tie.Need-loop-less Inv-loop μ-loop
 loop-less c = let t = c .before .before .before .before .if1 .taken in rw (c .with-mark .ensures) (omega arith)
 
--- src/lib.rt:86:5
 loop-again : tie.Need-loop-again Inv-loop μ-loop
 loop-again c = let l = c .before .before .before .before .before .before in
     let a = start l in
     let q = c .before .if2 .taken in
     (rw (c .with-mark .ensures) (going-mark (a .args .t1) _ (l .loop .trail) (l .loop .ring) (l .loop .gathered) (l .loop .at) (l .loop .inv .0) (a .pre) (c .before .before .before .before .if1 .taken) q), l .loop .inv .1)
 
--- src/lib.rt:95:21
 rem-owner : tie.Need-rem-owner Inv-loop μ-loop
 rem-owner c = search needs
 
--- src/lib.rt:96:13
 given-by-requires : tie.Need-given-by-requires Inv-loop μ-loop
 given-by-requires c κs = search needs
 
--- src/lib.rt:97:19
 mul-spoken : tie.Need-mul-spoken Inv-loop μ-loop
 mul-spoken c = omega (arith, owner-low (c .before))
 
--- src/lib.rt:97:19
 element-copy-out-spoken : tie.Need-element-copy-out-spoken Inv-loop μ-loop
 element-copy-out-spoken c = owner-low (c .before)
 
--- src/lib.rt:97:37
 element-copy-out-spoken-2 : tie.Need-element-copy-out-spoken-2 Inv-loop μ-loop
 element-copy-out-spoken-2 c = owner-low (c .before .before)
 
--- src/lib.rt:97:12
 spoken-requires : tie.Need-spoken-requires Inv-loop μ-loop
 spoken-requires c κs = search needs
 
--- src/lib.rt:97:77
 element-copy-out-if3 : tie.Need-element-copy-out-if3 Inv-loop μ-loop
 element-copy-out-if3 c = search needs
 
--- src/lib.rt:98:40
 cast-t36 : tie.Need-cast-t36 Inv-loop μ-loop
 cast-t36 c = search needs
 
--- src/lib.rt:98:13
 judged-requires : tie.Need-judged-requires Inv-loop μ-loop
 judged-requires c κs = search needs
 
--- src/lib.rt:98:13
 same-length : tie.Need-same-length Inv-loop μ-loop
 same-length c = c .before .before .before .before .before .before .before .before .before .loop .inv .1
 
--- src/lib.rt:98:13
 returns : tie.Need-returns Inv-loop μ-loop
 returns c = let p = c .before .before .before in
     let j = p .before .before .before .before in
@@ -180,23 +148,18 @@ returns c = let p = c .before .before .before in
     (going-differs (a .args .t1) _ (l .loop .trail) (l .loop .ring) (l .loop .gathered) (l .loop .at) (l .loop .inv .0) (a .pre) (j .before .loop-test .taken) (whole j)
     (λ e. c .before .if3 .taken (said p ∙ e)))
 
--- src/lib.rt:100:13
 step-requires : tie.Need-step-requires Inv-loop μ-loop
 step-requires c κs = search needs
 
--- src/lib.rt:103:38
 enum-known-answer : tie.Need-enum-known-answer Inv-loop μ-loop
 enum-known-answer c = search needs
 
--- src/lib.rt:104:33
 cast-refused : tie.Need-cast-refused Inv-loop μ-loop
 cast-refused c = search needs
 
--- src/lib.rt:104:13
 refused-requires : tie.Need-refused-requires Inv-loop μ-loop
 refused-requires c κs = search needs
 
--- src/lib.rt:104:13
 same-length-2 : tie.Need-same-length-2 Inv-loop μ-loop
 same-length-2 c = let p = c .before .before .before .before .before .before .before in
     let e = p .before .before in
@@ -205,7 +168,6 @@ same-length-2 c = let p = c .before .before .before .before .before .before .bef
     let a = start l in
     going-length (a .args .t1) (runSheet (a .args .t1) (a .args .trail .now)) (l .loop .trail) (l .loop .ring) (l .loop .gathered) (l .loop .at) (l .loop .inv .0) (a .pre) (j .before .loop-test .taken) (whole j) (heard e) (p .step .result) (p .step .last .1 .1 .1 .0) (promise p) ∙ l .loop .inv .1
 
--- src/lib.rt:104:13
 returns-2 : tie.Need-returns-2 Inv-loop μ-loop
 returns-2 c = let p = c .before .before .before .before .before .before .before in
     let e = p .before .before in
@@ -218,19 +180,15 @@ returns-2 c = let p = c .before .before .before .before .before .before .before 
 enum-told : tie.Need-enum-told Inv-loop μ-loop
 enum-told c = search needs
 
--- src/lib.rt:106:9
 slot-over-requires : tie.Need-slot-over-requires Inv-loop μ-loop
 slot-over-requires c κs = search needs
 
--- src/lib.rt:107:9
 add-at : tie.Need-add-at Inv-loop μ-loop
 add-at c = omega (arith, c .before .before .before .before .before .before .before .before .before .before .before .before .before .before .before .loop-test .taken, start (c .before .before .before .before .before .before .before .before .before .before .before .before .before .before .before .before) .pre .slotted)
 
--- src/lib.rt:86:5
 loop-less-2 : tie.Need-loop-less-2 Inv-loop μ-loop
 loop-less-2 c = let t = c .before .before .before .before .before .before .before .before .before .before .before .before .before .before .before .loop-test .taken in rw (c .slot-over .ensures) (omega arith)
 
--- src/lib.rt:86:5
 loop-again-2 : tie.Need-loop-again-2 Inv-loop μ-loop
 loop-again-2 c = let p = c .before .before .before .before .before .before in
     let e = p .before .before in
@@ -239,15 +197,12 @@ loop-again-2 c = let p = c .before .before .before .before .before .before in
     let a = start l in
     (rw (c .slot-over .ensures) (going-on (a .args .t1) (runSheet (a .args .t1) (a .args .trail .now)) (l .loop .trail) (l .loop .ring) (l .loop .gathered) (l .loop .at) (l .loop .inv .0) (a .pre) (j .before .loop-test .taken) (whole j) (heard e) (p .step .result) (p .step .last .1 .1 .1 .0) (promise p) (ap told (c .before .enum-told .given .1))), going-length (a .args .t1) (runSheet (a .args .t1) (a .args .trail .now)) (l .loop .trail) (l .loop .ring) (l .loop .gathered) (l .loop .at) (l .loop .inv .0) (a .pre) (j .before .loop-test .taken) (whole j) (heard e) (p .step .result) (p .step .last .1 .1 .1 .0) (promise p) ∙ l .loop .inv .1)
 
--- src/lib.rt:109:5
 judged-requires-2 : tie.Need-judged-requires-2 Inv-loop μ-loop
 judged-requires-2 c κs = search needs
 
--- src/lib.rt:77:1
 same-length-3 : tie.Need-same-length-3 Inv-loop μ-loop
 same-length-3 c = c .before .before .loop .inv .1
 
--- src/lib.rt:77:1
 returns-3 : tie.Need-returns-3 Inv-loop μ-loop
 returns-3 c = let l = c .before .before in
     let a = start l in
