@@ -3,4 +3,5 @@ pub mod Joined
 pub mod Gathering
 pub mod Running
 pub mod Reading
+pub mod Story
 pub mod Examples

@@ -46,6 +46,10 @@ heardOn sheet b = sheets.slotOf sheet (b .ring .time)
 
 -- ---- one slot of the run
 
+pub run-ends : (sheet : Sheet) (b : Bench) → runFrom zero sheet b ≡ judged sheet b agrees
+unfolding runFrom
+run-ends sheet b = refl
+
 module _ (sheet : Sheet) (b : Bench) (left : ℕ) where
   pub run-differs : eqb (spokenOn (marksOn sheet b) b) (heardOn sheet b) ≡ false → runFrom (suc left) sheet b ≡ judged sheet b (differs (b .ring .time))
   unfolding runFrom
@@ -113,8 +117,7 @@ module _ (sheet : Sheet) (all : Result) (trail : List ℕ) (r : Ring) (g : Gathe
 
   -- no slot is left
   pub going-over : sheet .«slot_count» ≤ at → all ≡ judged sheet (bench r trail) agrees
-  unfolding runFrom
-  going-over l = sym (go .same zero (let h = go .within in omega arith))
+  going-over l = sym (go .same zero (let h = go .within in omega arith)) ∙ run-ends sheet (bench r trail)
 
   module _ (good : GoodSheet sheet) (early : at < sheet .«slot_count») (whole : Whole sheet at g) where
     abbrev b : Bench
