@@ -4,4 +4,6 @@ pub mod Gathering
 pub mod Running
 pub mod Reading
 pub mod Story
+pub mod Fits
+pub mod Unique
 pub mod Examples

@@ -1,6 +1,7 @@
 -- What the reader's answer says of the run. Assumes nothing.
 use mathlib.Core.Path.{_≡_, refl, sym, ap, ap₂, _∙_, subst}
 use mathlib.Core.List.{List}
+use mathlib.Core.Logic.{_⊎_, inl, inr}
 use Prim.Native.Nat.{ℕ}
 use native.Mathlib.Omega.{arith}
 use Rattle.limits.specs.Refusals.{numberOf, done}
@@ -34,6 +35,16 @@ run-offence bytes t e = rw e
 
 pub keeps : (bytes t : List ℕ) (x : Ran) (t′ : List ℕ) → Leaves (runOf bytes t) x t′ → RunPromise bytes t x t′
 keeps bytes t x t′ l = record { answer = l .answer; ring = l .ring; modules = l .modules; trail = l .trail }
+
+-- the bytes are read as a good sheet, or refused
+pub read-is : (bytes : List ℕ) → ((sheet : Sheet) × GoodSheet sheet × ((t : List ℕ) → runOf bytes t ≡ runSheet sheet t))
+    ⊎ ((why : Refusal) × (place : ℕ) × (sheetIn bytes ≡ offence why place))
+read-is bytes = go (sheetIn bytes) refl
+  where
+    go : (f : Found Sheet) → sheetIn bytes ≡ f
+        → ((sheet : Sheet) × GoodSheet sheet × ((t : List ℕ) → runOf bytes t ≡ runSheet sheet t)) ⊎ ((why : Refusal) × (place : ℕ) × (sheetIn bytes ≡ offence why place))
+    go (found sheet end) e = inl (sheet, read-good bytes sheet end e, λ t. run-read bytes t e)
+    go (offence why place) e = inr (why, place, e)
 
 -- ---- by the reader's answer
 
