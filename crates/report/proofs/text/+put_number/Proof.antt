@@ -1,3 +1,4 @@
+-- `put_number`: the tens before the last digit, the number falling with each call. Assumes nothing.
 use borrow.Author.Needs.{needs}
 use mathlib.Core.Path.{sym}
 use Rattle.report.proofs.Writing.{then, same, at-most}
@@ -23,7 +24,6 @@ abbrev put-number-below : ℕ → In 1 put-number-kinds.ps
 put-number-below t =
     and 1 put-number-kinds.ps (falls 1 put-number-kinds.ps _<_ μ-put-number t) put-number.Pre
 
--- src/text.rt:44:46
 put-number-cast-put-byte : (t : ℕ) → put-number-lts.Need-cast-put-byte (
   put-byte-reads.Asked,
   put-byte-reads.Learnt,
@@ -32,7 +32,6 @@ put-number-cast-put-byte : (t : ℕ) → put-number-lts.Need-cast-put-byte (
 ) (put-number-at t) put-number.Post
 put-number-cast-put-byte t c = search needs
 
--- src/text.rt:44:38
 put-number-add-put-byte : (t : ℕ) → put-number-lts.Need-add-put-byte (
   put-byte-reads.Asked,
   put-byte-reads.Learnt,
@@ -41,7 +40,6 @@ put-number-add-put-byte : (t : ℕ) → put-number-lts.Need-add-put-byte (
 ) (put-number-at t) put-number.Post
 put-number-add-put-byte t c = search needs
 
--- src/text.rt:44:9
 put-number-put-byte-requires : (t : ℕ) → put-number-lts.Need-put-byte-requires (
   put-byte-reads.Asked,
   put-byte-reads.Learnt,
@@ -50,7 +48,6 @@ put-number-put-byte-requires : (t : ℕ) → put-number-lts.Need-put-byte-requir
 ) (put-number-at t) put-number.Post
 put-number-put-byte-requires t c κs = search needs
 
--- src/text.rt:44:9
 put-number-same-length : (t : ℕ) → put-number-lts.Need-same-length (
   put-byte-reads.Asked,
   put-byte-reads.Learnt,
@@ -59,7 +56,6 @@ put-number-same-length : (t : ℕ) → put-number-lts.Need-same-length (
 ) (put-number-at t) put-number.Post
 put-number-same-length t c = search needs
 
--- src/text.rt:44:9
 put-number-returns : (t : ℕ) → put-number-lts.Need-returns (
   put-byte-reads.Asked,
   put-byte-reads.Learnt,
@@ -69,7 +65,6 @@ put-number-returns : (t : ℕ) → put-number-lts.Need-returns (
 put-number-returns t c = let n = c .before .before .before .before .before .before .args .n in
     at-most (machine-short n (search needs)) (same (sym (decimal-one n (search needs))) (c .before .before .put-byte .ensures))
 
--- src/text.rt:46:9
 put-number-put-number-requires : (t : ℕ) → put-number-lts.Need-put-number-requires (
   put-byte-reads.Asked,
   put-byte-reads.Learnt,
@@ -78,7 +73,6 @@ put-number-put-number-requires : (t : ℕ) → put-number-lts.Need-put-number-re
 ) (put-number-at t) put-number.Post
 put-number-put-number-requires t c κs = search needs
 
--- src/text.rt:47:34
 put-number-cast-put-byte-2 : (t : ℕ) → put-number-lts.Need-cast-put-byte-2 (
   put-byte-reads.Asked,
   put-byte-reads.Learnt,
@@ -87,7 +81,6 @@ put-number-cast-put-byte-2 : (t : ℕ) → put-number-lts.Need-cast-put-byte-2 (
 ) (put-number-at t) put-number.Post
 put-number-cast-put-byte-2 t c = search needs
 
--- src/text.rt:47:26
 put-number-add-put-byte-2 : (t : ℕ) → put-number-lts.Need-add-put-byte-2 (
   put-byte-reads.Asked,
   put-byte-reads.Learnt,
@@ -96,7 +89,6 @@ put-number-add-put-byte-2 : (t : ℕ) → put-number-lts.Need-add-put-byte-2 (
 ) (put-number-at t) put-number.Post
 put-number-add-put-byte-2 t c = search needs
 
--- src/text.rt:47:5
 put-number-put-byte-requires-2 : (t : ℕ) → put-number-lts.Need-put-byte-requires-2 (
   put-byte-reads.Asked,
   put-byte-reads.Learnt,
@@ -105,7 +97,6 @@ put-number-put-byte-requires-2 : (t : ℕ) → put-number-lts.Need-put-byte-requ
 ) (put-number-at t) put-number.Post
 put-number-put-byte-requires-2 t c κs = search needs
 
--- src/text.rt:40:1
 put-number-same-length-2 : (t : ℕ) → put-number-lts.Need-same-length-2 (
   put-byte-reads.Asked,
   put-byte-reads.Learnt,
@@ -114,7 +105,6 @@ put-number-same-length-2 : (t : ℕ) → put-number-lts.Need-same-length-2 (
 ) (put-number-at t) put-number.Post
 put-number-same-length-2 t c = search needs
 
--- src/text.rt:40:1
 put-number-returns-2 : (t : ℕ) → put-number-lts.Need-returns-2 (
   put-byte-reads.Asked,
   put-byte-reads.Learnt,

@@ -1,3 +1,4 @@
+-- `put_word`: before byte i of the word those before it are written. Assumes nothing.
 use borrow.Author.Needs.{needs}
 use mathlib.Core.Path.{_≡_, refl, sym, ap, _∙_}
 use mathlib.Core.List.{[], _∷_, _++_}
@@ -10,9 +11,6 @@ use Rattle.report.specs.Inside.{Writes}
 use Rattle.report.proofs.Writing.{nothing-writes, then, same, at-most}
 use Rattle.report.proofs.text.put_word.Statement.{statement}
 use Rattle.report.proofs.text.put_word.Tie as tie
-use Rattle.report.proofs.text.put_word.Reads as reads
-use Rattle.report.proofs.text.put_word.Lts as lts
-use Rattle.report.proofs.text.put_byte.Reads as put-byte-reads
 
 abbrev Inv-loop : tie.InvT-loop
 Inv-loop page₀ word next₀ i₀ page next i = (i ≤ length word) × (length page ≡ length page₀) × Writes (take i word) i next₀ page₀ next page
@@ -20,27 +18,21 @@ Inv-loop page₀ word next₀ i₀ page next i = (i ≤ length word) × (length 
 abbrev μ-loop : tie.MeasureT-loop
 μ-loop page₀ word next₀ i₀ page next i = length word - i
 
--- src/text.rt:32:5
 loop-holds : tie.Need-loop-holds Inv-loop μ-loop
 loop-holds c = (search needs, refl, nothing-writes)
 
--- src/text.rt:33:37
 shared-slice-read-put-byte : tie.Need-shared-slice-read-put-byte Inv-loop μ-loop
 shared-slice-read-put-byte c = search needs
 
--- src/text.rt:33:9
 put-byte-requires : tie.Need-put-byte-requires Inv-loop μ-loop
 put-byte-requires c κs = search needs
 
--- src/text.rt:34:9
 add-i : tie.Need-add-i Inv-loop μ-loop
 add-i c = search needs
 
--- src/text.rt:32:5
 loop-less : tie.Need-loop-less Inv-loop μ-loop
 loop-less c = search needs
 
--- src/text.rt:32:5
 loop-again : tie.Need-loop-again Inv-loop μ-loop
 loop-again c = let l = c .before .before .before .before .before .before in
     let word = l .before .before .before .args .word .now in
@@ -48,11 +40,9 @@ loop-again c = let l = c .before .before .before .before .before .before in
     let step : take i word ++ (getD word i 0 ∷ []) ≡ take (i + 1) word = sym (ap (λ (x : ℕ). take x word) (add-one i) ∙ take-suc word i 0 (search needs)) in
     (search needs, search needs, same step (then (l .loop .inv .2) (c .before .before .put-byte .ensures)))
 
--- src/text.rt:27:1
 same-length : tie.Need-same-length Inv-loop μ-loop
 same-length c = search needs
 
--- src/text.rt:27:1
 returns : tie.Need-returns Inv-loop μ-loop
 returns c = let l = c .before in
     let word = l .before .before .before .args .word .now in
