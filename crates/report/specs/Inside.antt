@@ -1,0 +1,33 @@
+-- What the functions that write the page promise each other: a text goes after what is written already.
+use mathlib.Core.List.{List, _++_}
+use mathlib.Core.Path.{_≡_}
+use Prim.Native.Nat.{ℕ, _*_, _≤_}
+use lib.Dec.{leb}
+use lib.ListN.{length, take}
+use Rattle.lists.specs.Put.{put}
+use Rattle.ring.specs.Trail.{width}
+use Rattle.ring.specs.declared.Ring.{Ring}
+use Rattle.run.specs.Outcome.{Result, said}
+use Rattle.run.specs.declared.Ran.{Ran}
+use Rattle.report.specs.declared.text.Place.{Place}
+
+-- the buffer that came as `start` holds as much of the text as it can
+pub record Written (start text : List ℕ) (place : Place) (page : List ℕ) : Type 0 where
+  pub bytes : page ≡ put start 0 (take (length start) text)
+  pub at : place .at ≡ length (take (length start) text)
+  pub whole : place .whole ≡ leb (length text) (length start)
+
+-- the text, of at most so many bytes, is written after whatever is written already
+pub record Writes (text : List ℕ) (most : ℕ) (place : Place) (page : List ℕ) (place′ : Place) (page′ : List ℕ) : Type 0 where
+  pub more : (start before : List ℕ) → Written start before place page → Written start (before ++ text) place′ page′
+  pub short : length text ≤ most
+
+-- what a run gives back, with its trail
+abbrev pub resultOf : Ran → List ℕ → Result
+resultOf r trail = record { outcome = said (r .answer); ring = r .ring; modules = r .modules; trail = trail }
+
+-- the ring has seats and records within the limits, and the trail has the records
+pub record Holds (ring : Ring) (trail : List ℕ) : Type 0 where
+  pub seats : ring .n ≤ 32
+  pub few : ring .records ≤ 1024
+  pub records : width * ring .records ≤ length trail

@@ -1,0 +1,4 @@
+pub mod Decimal
+pub mod Inside
+pub mod Page
+pub mod Promise

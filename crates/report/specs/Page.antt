@@ -1,0 +1,135 @@
+-- The printed page of document 01, 'What the program prints', as the bytes of its text.
+use mathlib.Core.Bool.{cond}
+use mathlib.Core.List.{List, [], _∷_, _++_}
+use Prim.Native.Nat.{ℕ, _+_, _*_}
+use lib.ListN.{getD}
+use Rattle.lists.specs.Counted.{joined}
+use Rattle.seats.specs.Sets.{sizeOf}
+use Rattle.ring.specs.Ring.{seatOf, out}
+use Rattle.ring.specs.Trail.{width}
+use Rattle.ring.specs.Refusals.{within, outside, unfit}
+use Rattle.ring.specs.declared.Ring.{Ring}
+use Rattle.run.specs.Outcome.{Heard, agrees, differs, Outcome, ran, refused, Result}
+use Rattle.report.specs.Decimal.{decimal}
+
+-- ---- lines
+
+abbrev pub space : ℕ
+space = 32
+
+abbrev pub feed : ℕ
+feed = 10
+
+-- words parted by one space, ended by one line feed
+abbrev pub lineOf : List (List ℕ) → List ℕ
+lineOf [] = feed ∷ []
+lineOf (last ∷ []) = last ++ (feed ∷ [])
+lineOf (word ∷ next ∷ more) = word ++ (space ∷ []) ++ lineOf (next ∷ more)
+
+-- the lines 0 to k - 1 after their count
+abbrev pub section : ℕ → (ℕ → List ℕ) → List ℕ
+section k line = lineOf (decimal k ∷ []) ++ joined k line
+
+-- ---- the records: `time holder removed cause`, modules by number
+
+-- byte j of record k
+abbrev pub byteOf : List ℕ → ℕ → ℕ → ℕ
+byteOf trail k j = getD trail (width * k + j) 0
+
+unfoldable pub recordLine : List ℕ → List ℕ → ℕ → List ℕ
+recordLine modules trail k =
+    let time = byteOf trail k 0 + 256 * byteOf trail k 1 in
+    let holder = getD modules (byteOf trail k 2) 0 in
+    let removed = getD modules (byteOf trail k 3) 0 in
+    let cause = byteOf trail k 4 in
+    lineOf (decimal time ∷ decimal holder ∷ decimal removed ∷ (cause ∷ []) ∷ [])
+
+-- ---- the seats in order: `module set-size ack in` or `.. out`, ack as 0 or 1
+
+-- in
+abbrev pub inWord : List ℕ
+inWord = 105 ∷ 110 ∷ []
+
+-- out
+abbrev pub outWord : List ℕ
+outWord = 111 ∷ 117 ∷ 116 ∷ []
+
+unfoldable pub seatLine : List ℕ → Ring → ℕ → List ℕ
+seatLine modules ring p =
+    let seat = seatOf ring p in
+    lineOf (
+    decimal (getD modules p 0)
+    ∷ decimal (sizeOf (seat .set))
+    ∷ decimal (cond (seat .ack) 1 0)
+    ∷ cond (out p seat) outWord inWord
+    ∷ []
+    )
+
+-- ---- the two verdict lines
+
+-- bus
+abbrev pub busWord : List ℕ
+busWord = 98 ∷ 117 ∷ 115 ∷ []
+
+-- agrees
+abbrev pub agreesWord : List ℕ
+agreesWord = 97 ∷ 103 ∷ 114 ∷ 101 ∷ 101 ∷ 115 ∷ []
+
+-- differs
+abbrev pub differsWord : List ℕ
+differsWord = 100 ∷ 105 ∷ 102 ∷ 102 ∷ 101 ∷ 114 ∷ 115 ∷ []
+
+-- faults
+abbrev pub faultsWord : List ℕ
+faultsWord = 102 ∷ 97 ∷ 117 ∷ 108 ∷ 116 ∷ 115 ∷ []
+
+-- within
+abbrev pub withinWord : List ℕ
+withinWord = 119 ∷ 105 ∷ 116 ∷ 104 ∷ 105 ∷ 110 ∷ []
+
+-- outside
+abbrev pub outsideWord : List ℕ
+outsideWord = 111 ∷ 117 ∷ 116 ∷ 115 ∷ 105 ∷ 100 ∷ 101 ∷ []
+
+-- `bus agrees` or `bus differs T`
+abbrev pub busLine : Heard → List ℕ
+busLine agrees = lineOf (busWord ∷ agreesWord ∷ [])
+busLine (differs t) = lineOf (busWord ∷ differsWord ∷ decimal t ∷ [])
+
+-- `faults within` or `faults outside T`
+abbrev pub withinLine : List ℕ
+withinLine = lineOf (faultsWord ∷ withinWord ∷ [])
+
+abbrev pub outsideLine : ℕ → List ℕ
+outsideLine t = lineOf (faultsWord ∷ outsideWord ∷ decimal t ∷ [])
+
+-- ---- the page
+
+-- refused
+abbrev pub refusedWord : List ℕ
+refusedWord = 114 ∷ 101 ∷ 102 ∷ 117 ∷ 115 ∷ 101 ∷ 100 ∷ []
+
+-- `refused NUMBER PLACE`
+abbrev pub refusedLine : ℕ → ℕ → List ℕ
+refusedLine number place = lineOf (refusedWord ∷ decimal number ∷ decimal place ∷ [])
+
+-- the records and the seats, each after their count
+abbrev pub recordsAndSeats : Result → List ℕ
+recordsAndSeats x = section (x .ring .records) (recordLine (x .modules) (x .trail)) ++ section (x .ring .n) (seatLine (x .modules) (x .ring))
+
+-- the two verdict lines after theirs
+abbrev pub verdictBegins : List ℕ → List ℕ
+verdictBegins bus = lineOf (decimal 2 ∷ []) ++ bus
+
+abbrev pub verdict : List ℕ → List ℕ → List ℕ
+verdict bus faults = verdictBegins bus ++ faults
+
+-- the three sections; a refusal prints its line only
+abbrev pub pageBy : Result → Outcome → List ℕ
+pageBy x (ran bus within) = recordsAndSeats x ++ verdict (busLine bus) withinLine
+pageBy x (ran bus (outside t)) = recordsAndSeats x ++ verdict (busLine bus) (outsideLine t)
+pageBy x (ran bus (unfit number place)) = refusedLine number place
+pageBy x (refused number place) = refusedLine number place
+
+unfoldable pub pageOf : Result → List ℕ
+pageOf x = pageBy x (x .outcome)

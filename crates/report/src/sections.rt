@@ -1,0 +1,104 @@
+// The page's sections, each after its count, and the page made of them.
+ghost use Prim.Native.Nat.{_+_, _*_, _≤_};
+ghost use lib.ListN.{length};
+ghost use Rattle.ring.specs.Trail.{width};
+ghost use Rattle.report.specs.Page.{recordLine, seatLine, section, busLine, recordsAndSeats, verdictBegins, pageOf};
+ghost use Rattle.report.specs.Promise.{pageMost};
+ghost use Rattle.report.specs.Inside.{Writes, Holds, resultOf};
+ghost use Rattle.run.specs.Outcome.{heard};
+use crate::lines;
+use crate::text::Place;
+use ring::Ring;
+use ring::Verdict;
+use run::Answer;
+use run::Bus;
+use run::Ran;
+
+// The trail's records in order.
+fn record_section(
+    page: &mut [u8],
+    place: Place,
+    modules: [u16; limits::SEATS_MOST],
+    trail: &[u8],
+    records: u16,
+) -> Place
+    requires { ⌜ width * records ≤ length (now trail) ⌝ }
+    ensures { λ r. ⌜ Writes (section records (recordLine modules (now (trail .entry)))) (6 + 20 * records) place (now (page .entry)) r (now (page .exit)) ⌝ }
+{
+    let count = records as usize;
+    let mut next = lines::count_line(page, place, records);
+    let mut k: usize = 0;
+    while k < count {
+        next = lines::record_line(page, next, modules, trail, k);
+        k += 1;
+    }
+    next
+}
+
+// The ring's seats in order.
+fn seat_section(
+    page: &mut [u8],
+    place: Place,
+    modules: [u16; limits::SEATS_MOST],
+    ring: Ring,
+) -> Place
+    requires { ⌜ ring .n ≤ 32 ⌝ }
+    ensures { λ r. ⌜ Writes (section (ring .n) (seatLine modules ring)) (6 + 22 * ring .n) place (now (page .entry)) r (now (page .exit)) ⌝ }
+{
+    let n = ring.n;
+    let mut next = lines::count_line(page, place, n as u16);
+    let mut p: usize = 0;
+    while p < n {
+        next = lines::seat_line(page, next, modules, ring, p);
+        p += 1;
+    }
+    next
+}
+
+// The first two sections.
+fn records_and_seats(page: &mut [u8], place: Place, ran: Ran, trail: &[u8]) -> Place
+    requires { ⌜ Holds (ran .ring) (now trail) ⌝ }
+    ensures { λ r. ⌜ Writes (recordsAndSeats (resultOf ran (now (trail .entry)))) 21196 place (now (page .entry)) r (now (page .exit)) ⌝ }
+{
+    let modules = ran.modules;
+    let ring = ran.ring;
+    let next = record_section(page, place, modules, trail, ring.records);
+    seat_section(page, next, modules, ring)
+}
+
+// The verdict's count and its first line.
+fn verdict_begins(page: &mut [u8], place: Place, bus: Bus) -> Place
+    ensures { λ r. ⌜ Writes (verdictBegins (busLine (heard bus))) 24 place (now (page .entry)) r (now (page .exit)) ⌝ }
+{
+    let next = lines::count_line(page, place, 2);
+    lines::bus_line(page, next, bus)
+}
+
+// The whole page of a run. A verdict that is refused, which no run gives, prints as a refusal does.
+pub fn whole_page(page: &mut [u8], place: Place, ran: Ran, trail: &[u8]) -> Place
+    requires { ⌜ Holds (ran .ring) (now trail) ⌝ }
+    ensures { λ r. ⌜ Writes (pageOf (resultOf ran (now (trail .entry)))) pageMost place (now (page .entry)) r (now (page .exit)) ⌝ }
+{
+    let answer = ran.answer;
+    match answer {
+        Answer::Refused(why, offence) => lines::refused_line(page, place, why, offence),
+        Answer::Ran(bus, verdict) => match verdict {
+            Verdict::Refused(why, offence) => lines::refused_line(
+                page,
+                place,
+                why,
+                offence as usize,
+            ),
+            Verdict::Within => {
+                let a = records_and_seats(page, place, ran, trail);
+                let b = verdict_begins(page, a, bus);
+                lines::within_line(page, b)
+            }
+            Verdict::Outside(t) => {
+                let a = records_and_seats(page, place, ran, trail);
+                let b = verdict_begins(page, a, bus);
+                lines::outside_line(page, b, t)
+            }
+        },
+    }
+}
