@@ -1,0 +1,152 @@
+-- The reader of sheets gives no refusal but 1 to 7. Assumes nothing.
+use mathlib.Core.Path.{_≡_, refl, ap}
+use mathlib.Core.Bool.{Bool, true, false, cond}
+use mathlib.Core.List.{List}
+use mathlib.Core.Option.{Option, none, some}
+use Prim.Native.Nat.{ℕ, zero, suc, _+_, _*_, _-_, _≤_}
+use native.Mathlib.Omega.{arith}
+use lib.Dec.{ltb, eqb}
+use lib.ListN.{length, getD, set}
+use Rattle.limits.specs.Limits.{seatsLeast, seatsMost, marksMost, slotsMost, moduleMost}
+use Rattle.limits.specs.Refusals.{numberOf}
+use Rattle.limits.specs.declared.Refusal.{Refusal}
+use Rattle.limits.specs.declared.Refusal.the-variants.{EndsEarly, WrongByte, OutsideLimits, ModuleTwice, MarkNotAbove, WrongMark, BytesAfter}
+use Rattle.sheet.specs.Found.{Found, found, offence, onFound, andThen}
+use Rattle.sheet.specs.Bytes.{isDigit, isSpace, isLineFeed, isKind, isHeard, byteAt, digitsAt, numberAt}
+use Rattle.sheet.specs.Lines.{endAt, ended, within, lineAt, linesAt, Section, section, sectionAt, isNew, moduleLine, slotLine}
+use Rattle.sheet.specs.Marks.{mark, noMark, markWithin, ascends, allowed, markOffence, onOption, spacedAt, fieldsAt, markLine}
+use Rattle.sheet.specs.Sheets.{noModules, noMarks, noSlots, sheetFrom, sheetIn}
+use Rattle.sheet.specs.declared.Mark.{Mark}
+use Rattle.sheet.specs.declared.Sheet.{Sheet}
+
+-- ---- what is said of a reading
+
+abbrev Only : {A : Type 0} → Found A → Type 0
+Only f = (why : Refusal) (place : ℕ) → f ≡ offence why place → numberOf why ≤ 7
+
+only-found : {A : Type 0} (a : A) (n : ℕ) → Only (found a n)
+only-found a n why place e = let z : _≡_ {A = ℕ} 0 1 = cc in absurd (omega arith)
+
+only-offence : {A : Type 0} (why : Refusal) (place : ℕ) → numberOf why ≤ 7 → Only {A = A} (offence why place)
+only-offence why place l why′ place′ e = let q : why ≡ why′ = cc in let n = ap numberOf q in omega arith
+
+only-cond : {A : Type 0} (b : Bool) (f g : Found A) → Only f → Only g → Only (cond b f g)
+only-cond true f g x y = x
+only-cond false f g x y = y
+
+only-on : {A B : Type 0} (f : Found A) (g : A → ℕ → Found B) (h : Refusal → ℕ → Found B) → ((a : A) (n : ℕ) → Only (g a n))
+    → ((why : Refusal) (place : ℕ) → Only (h why place)) → Only (onFound f g h)
+only-on (found a n) g h x y = x a n
+only-on (offence why place) g h x y = y why place
+
+only-then : {A B : Type 0} (f : Found A) (g : A → ℕ → Found B) → Only f → ((a : A) (n : ℕ) → Only (g a n)) → Only (andThen f g)
+only-then (found a n) g x y = y a n
+only-then (offence why place) g x y = only-offence why place (x why place refl)
+
+-- ---- bytes and numbers
+
+byte-only : (can : ℕ → Bool) (s : List ℕ) (at : ℕ) → Only (byteAt can s at)
+unfolding byteAt
+byte-only can s at =
+    only-cond (ltb at (length s)) _ _
+    (only-cond (can (getD s at 0)) _ _ (only-found _ _) (only-offence WrongByte at (omega arith)))
+    (only-offence EndsEarly (length s) (omega arith))
+
+digits-only : (k value : ℕ) (s : List ℕ) (at : ℕ) → Only (digitsAt k value s at)
+unfolding digitsAt
+digits-only zero value s at = only-found value at
+digits-only (suc k) value s at =
+    only-on (byteAt isDigit s at) _ _ (λ digit next. digits-only k (value * 10 + (digit - 48)) s next) (λ why place. only-found value at)
+
+number-only : (s : List ℕ) (at : ℕ) → Only (numberAt s at)
+unfolding numberAt
+number-only s at =
+    only-then (byteAt isDigit s at) _ (byte-only isDigit s at)
+    (λ digit next. only-cond (eqb digit 48) _ _ (only-found 0 next) (digits-only 4 (digit - 48) s next))
+
+-- ---- lines
+
+end-only : (s : List ℕ) (at : ℕ) → Only (endAt s at)
+unfolding endAt
+end-only s at = only-then (byteAt isLineFeed s at) _ (byte-only isLineFeed s at) (λ feed next. only-found 1 next)
+
+ended-only : (s : List ℕ) (last : Found ℕ) → Only last → Only (ended s last)
+unfolding ended
+ended-only s last x = only-then last _ x (λ value at. only-then (endAt s at) _ (end-only s at) (λ took next. only-found value next))
+
+line-only : (least most : ℕ) (s : List ℕ) (at : ℕ) → Only (lineAt least most s at)
+unfolding lineAt
+line-only least most s at =
+    only-then (ended s (numberAt s at)) _ (ended-only s (numberAt s at) (number-only s at))
+    (λ value next. only-cond (within least most value) _ _ (only-found value next) (only-offence OutsideLimits at (omega arith)))
+
+module-only : (s : List ℕ) (at k : ℕ) (modules : List ℕ) → Only (moduleLine s at k modules)
+unfolding moduleLine
+module-only s at k modules =
+    only-then (lineAt 1 moduleMost s at) _ (line-only 1 moduleMost s at)
+    (λ number next. only-cond (isNew number k modules) _ _ (only-found (set modules k number) next) (only-offence ModuleTwice at (omega arith)))
+
+slot-only : (s : List ℕ) (at k : ℕ) (slots : List ℕ) → Only (slotLine s at k slots)
+unfolding slotLine
+slot-only s at k slots =
+    only-then (ended s (byteAt isHeard s at)) _ (ended-only s (byteAt isHeard s at) (byte-only isHeard s at)) (λ heard next. only-found (set slots k heard) next)
+
+spaced-only : (s : List ℕ) (at : ℕ) → Only (spacedAt s at)
+unfolding spacedAt
+spaced-only s at =
+    only-then (numberAt s at) _ (number-only s at) (λ value at. only-then (byteAt isSpace s at) _ (byte-only isSpace s at) (λ space next. only-found value next))
+
+fields-only : (s : List ℕ) (at : ℕ) → Only (fieldsAt s at)
+unfolding fieldsAt
+fields-only s at =
+    only-then (spacedAt s at) _ (spaced-only s at)
+    (λ time at. only-then (spacedAt s at) _ (spaced-only s at)
+    (λ seat at. only-then (ended s (byteAt isKind s at)) _ (ended-only s (byteAt isKind s at) (byte-only isKind s at))
+    (λ kind next. only-found (mark time seat kind) next)))
+
+offence-only : (n k : ℕ) (last m : Mark) (why : Refusal) → markOffence n k last m ≡ some why → numberOf why ≤ 7
+unfolding markOffence
+offence-only n k last m why = go (markWithin n m) (ascends k last m) (allowed n m)
+  where
+    go : (a b c : Bool) → cond a (cond b (cond c none (some WrongMark)) (some MarkNotAbove)) (some OutsideLimits) ≡ some why → numberOf why ≤ 7
+    go true true true e = let z : _≡_ {A = ℕ} 0 1 = cc in absurd (omega arith)
+    go true true false e = let q : WrongMark ≡ why = cc in let n = ap numberOf q in omega arith
+    go true false c e = let q : MarkNotAbove ≡ why = cc in let n = ap numberOf q in omega arith
+    go false b c e = let q : OutsideLimits ≡ why = cc in let n = ap numberOf q in omega arith
+
+option-only : {A : Type 0} (o : Option Refusal) (f : Found A) (at : ℕ) → ((why : Refusal) → o ≡ some why → numberOf why ≤ 7) → Only f
+    → Only (onOption o f (λ why. offence why at))
+option-only none f at x y = y
+option-only (some why) f at x y = only-offence why at (x why refl)
+
+mark-only : (n : ℕ) (s : List ℕ) (at k : ℕ) (marks : List Mark) → Only (markLine n s at k marks)
+unfolding markLine
+mark-only n s at k marks =
+    let last = getD marks (k - 1) noMark in
+    only-then (fieldsAt s at) _ (fields-only s at)
+    (λ m next. option-only (markOffence n k last m) _ at (offence-only n k last m) (only-found (set marks k m) next))
+
+-- ---- sections
+
+lines-only : {S : Type 0} (line : ℕ → ℕ → S → Found S) → ((at k : ℕ) (e : S) → Only (line at k e)) → (more at k : ℕ) (e : S) → Only (linesAt line more at k e)
+unfolding linesAt
+lines-only line x zero at k e = only-found e at
+lines-only line x (suc more) at k e = only-then (line at k e) _ (x at k e) (λ entries next. lines-only line x more next (k + 1) entries)
+
+section-only : {A : Type 0} (least most : ℕ) (line : ℕ → ℕ → List A → Found (List A)) (empty : List A) (s : List ℕ) (at : ℕ)
+    → ((at k : ℕ) (e : List A) → Only (line at k e)) → Only (sectionAt least most line empty s at)
+unfolding sectionAt
+section-only least most line empty s at x =
+    only-then (lineAt least most s at) _ (line-only least most s at)
+    (λ count first. only-then (linesAt line count first 0 empty) _ (lines-only line x count first 0 empty) (λ entries next. only-found (section count entries) next))
+
+-- ---- the sheet
+
+pub reader-numbers : (bytes : List ℕ) (why : Refusal) (place : ℕ) → sheetIn bytes ≡ offence why place → numberOf why ≤ 7
+unfolding sheetIn
+reader-numbers bytes =
+    only-then (sectionAt seatsLeast seatsMost (moduleLine bytes) noModules bytes 0) _ (section-only seatsLeast seatsMost (moduleLine bytes) noModules bytes 0 (module-only bytes))
+    (λ ring at. only-then (sectionAt 0 marksMost (markLine (ring .count) bytes) noMarks bytes at) _
+    (section-only 0 marksMost (markLine (ring .count) bytes) noMarks bytes at (mark-only (ring .count) bytes))
+    (λ marks at. only-then (sectionAt 0 slotsMost (slotLine bytes) noSlots bytes at) _ (section-only 0 slotsMost (slotLine bytes) noSlots bytes at (slot-only bytes))
+    (λ slots end. only-cond (ltb end (length bytes)) _ _ (only-offence BytesAfter end (omega arith)) (only-found (sheetFrom ring marks slots) end))))
