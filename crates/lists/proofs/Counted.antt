@@ -10,7 +10,7 @@ use native.Mathlib.Decide.{decLt}
 use native.Mathlib.Omega.{arith}
 use lib.Arith.{le-zero}
 use lib.ListN.{length, drop, set, getD, replicate, length-append, length-drop, length-replicate, getD-replicate, List·getD-append}
-use lib.Seq.{getD-append-add, getD-drop, set-at, getD-at, drop-cons, append-snoc, ext-getD}
+use lib.Seq.{getD-append-add, getD-drop, set-at, getD-at, drop-cons, append-snoc, ext-getD, set-getD}
 use Rattle.lists.specs.Counted.{tab, joined, sum, countBelow}
 
 -- a number below k + 1 is below k, or is k
@@ -60,6 +60,14 @@ drawn-above n f old d p l =
     ∙ getD-append-add (tab n f) (drop n old) (p - n) d
     ∙ getD-drop n old (p - n) d
     ∙ ap (λ (x : ℕ). getD old x d) g
+
+-- and one more turn of a loop that finds element p as it is to be, and leaves it
+pub draw-same : {A : Type 0} (p : ℕ) (f : ℕ → A) (old : List A) (d : A) → p < length old → f p ≡ getD old p d
+    → tab p f ++ drop p old ≡ tab (p + 1) f ++ drop (p + 1) old
+draw-same p f old d h e =
+    sym (set-getD (tab p f ++ drop p old) p d)
+    ∙ ap (set (tab p f ++ drop p old) p) (drawn-above p f old d p (le-refl p) ∙ sym e)
+    ∙ draw-next p f old h
 
 -- elements that are all alike are as they were
 pub drawn-alike : {A : Type 0} (x : A) (k p : ℕ) → p ≤ k → tab p (λ q. x) ++ drop p (replicate k x) ≡ replicate k x

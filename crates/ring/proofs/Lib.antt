@@ -1,3 +1,4 @@
+pub mod Calm
 pub mod Drawing
 pub mod Judging
 pub mod Records

@@ -17,6 +17,14 @@ pub record Drawable (r : Ring) (c : Slot) : Type 0 where
   pub owner : c .owner < 32
   pub time : c .time < 65535
 
+-- a slot in which every seat that expects the owner hears true
+abbrev pub calmIn : Slot → Bool
+calmIn c = c .speaks && c .bit && eqb (c .receive) 0
+
+-- nothing of such a seat changes then, whatever its set
+abbrev pub keepsAll : Bool → Bool → Bool → ℕ → ℕ → Bool
+keepsAll calm ack doubt p owner = calm && ack && not doubt && not (eqb p owner)
+
 -- the turns of the seats below k drawn, and their records counted
 abbrev pub drawnOf : Ring → Slot → ℕ → Drawn
 drawnOf r c k = record { ring = drawnTo k r (λ p. turnAt r c p .seat); count = sum k (countAt r c) }

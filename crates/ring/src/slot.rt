@@ -1,6 +1,7 @@
 // One slot, and what one seat makes of it from its own set, bits and first fault.
 ghost use mathlib.Core.Path.{_≡_};
 ghost use Prim.Native.Nat.{_<_, _≤_};
+ghost use Rattle.ring.specs.Inside.{calmIn, keepsAll};
 ghost use Rattle.ring.specs.Step.{slotFor, misses, viewOf, faultAfter, ownerTurn, otherTurn, turnOf};
 use crate::Ring;
 use crate::table::Removal;
@@ -55,6 +56,35 @@ pub fn slot_for(ring: Ring, send: bool, receive: u32, b: usize) -> Slot
         receive,
         time,
     }
+}
+
+// A slot in which every seat that expects the owner hears true.
+pub fn is_calm(slot: Slot) -> bool
+    ensures { λ r. ⌜ r ≡ calmIn slot ⌝ }
+{
+    if !slot.speaks {
+        return false;
+    }
+    if !slot.bit {
+        return false;
+    }
+    slot.receive == 0
+}
+
+// Whether nothing of seat p changes in the slot, whatever its set: it is not the owner, and has nothing to give up.
+pub fn keeps_all(calm: bool, ack: bool, doubt: bool, p: usize, owner: usize) -> bool
+    ensures { λ r. ⌜ r ≡ keepsAll calm ack doubt p owner ⌝ }
+{
+    if !calm {
+        return false;
+    }
+    if !ack {
+        return false;
+    }
+    if doubt {
+        return false;
+    }
+    p != owner
 }
 
 // Whether p's receive mark takes hold, for a seat that expects the owner.
