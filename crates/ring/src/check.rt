@@ -1,17 +1,19 @@
 // What is a ring, and which receive marks stand: the checks that come before a step.
 ghost use mathlib.Core.Path.{_≡_};
-ghost use Prim.Native.Nat.{_≤_};
-ghost use Rattle.ring.specs.Ring.{memberStands, absentStands, seatStands, everySeatStands, isRing};
+ghost use mathlib.Core.Bool.{_&&_};
+ghost use lib.Dec.{leb};
+ghost use Rattle.seats.specs.Sets.{fullSet};
+ghost use Rattle.ring.specs.Ring.{absentStands, seatStands, everySeatStands, isRing};
 ghost use Rattle.ring.specs.Refusals.{marksStand};
 use crate::Ring;
 use crate::slot::Seat;
 use crate::slot::Slot;
 
-// A seat that the ring has.
-fn member_stands(s: Seat, n: usize, time: u16) -> bool
-    ensures { λ r. ⌜ r ≡ memberStands n time s ⌝ }
+// A seat that the ring has; `full` has every seat of the ring.
+fn member_stands(s: Seat, full: u32, time: u16) -> bool
+    ensures { λ r. ⌜ r ≡ (leb (s .set) full && leb (s .fault) time) ⌝ }
 {
-    if seats::full(n) < s.set {
+    if full < s.set {
         return false;
     }
     s.fault <= time
@@ -33,11 +35,12 @@ fn absent_stands(s: Seat) -> bool
     s.fault == 0
 }
 
-fn seat_stands(s: Seat, p: usize, n: usize, time: u16) -> bool
+fn seat_stands(s: Seat, p: usize, n: usize, full: u32, time: u16) -> bool
+    requires { ⌜ full ≡ fullSet n ⌝ }
     ensures { λ r. ⌜ r ≡ seatStands n time p s ⌝ }
 {
     if p < n {
-        return member_stands(s, n, time);
+        return member_stands(s, full, time);
     }
     absent_stands(s)
 }
@@ -48,6 +51,7 @@ fn every_seat_stands(ring: Ring) -> bool
 {
     let n = ring.n;
     let time = ring.time;
+    let full = seats::full(n);
     let mut p: usize = 0;
     while p < limits::SEATS_MOST {
         let set = ring.sets[p];
@@ -63,6 +67,7 @@ fn every_seat_stands(ring: Ring) -> bool
             },
             p,
             n,
+            full,
             time,
         ) {
             return false;

@@ -1,18 +1,14 @@
 -- `member_stands`: each test in the order of the definition. Assumes nothing.
-use borrow.Author.Needs.{needs}
 use mathlib.Core.Path.{_≡_, refl, sym, ap, _∙_}
 use borrow.Author.Tests.{le-leb, lt-leb}
 use Rattle.ring.proofs.check.member_stands.Statement.{statement}
 use Rattle.ring.proofs.check.member_stands.Tie as tie
 
-full-requires : tie.Need-full-requires
-full-requires c κs = search needs
-
 returns : tie.Need-returns
-returns c = rw (← c .before .before .full .ensures, lt-leb _ _ (c .if1 .taken))
+returns c = rw (lt-leb _ _ (c .if1 .taken))
 
 returns-2 : tie.Need-returns-2
-returns-2 c = rw (← c .before .before .before .full .ensures, le-leb _ _ (c .before .if1 .left))
+returns-2 c = rw (le-leb _ _ (c .before .if1 .left))
 
 pub member-stands-spec : {M : Type 1} → statement M
-member-stands-spec = tie.close (tie.spec full-requires returns returns-2)
+member-stands-spec = tie.close (tie.spec returns returns-2)
