@@ -7,9 +7,9 @@ use lib.ListN.{replicate}
 use lib.Count.{onesIn}
 use Rattle.ring.specs.Refusals.{within}
 use Rattle.ring.specs.declared.Ring.{Ring}
-use Rattle.run.specs.Outcome.{agrees, ran, Result}
+use Rattle.run.specs.Outcome.{agrees, differs, ran, Result}
 use Rattle.report.specs.Decimal.{digitsIn, decimal}
-use Rattle.report.specs.Page.{recordLine, seatLine, pageOf}
+use Rattle.report.specs.Page.{recordLine, seatLine, busLine, outsideLine, refusedLine, verdict, pageOf}
 
 -- seats 0, 1 and 3 hold {0, 1, 3}; seat 2 holds {1, 3} and is out; its first fault was at time 0
 unfoldable pub exampleRing : Ring
@@ -58,3 +58,17 @@ examplePage =
 pub example-printed : pageOf exampleResult ≡ examplePage
 unfolding pageOf exampleResult exampleRing examplePage recordLine seatLine decimal digitsIn onesIn
 example-printed = refl
+
+-- 2, `bus differs 307`, `faults outside 4`
+pub differs-printed : verdict (busLine (differs 307)) (outsideLine 4)
+    ≡ (50 ∷ 10 ∷ [])
+    ++ (98 ∷ 117 ∷ 115 ∷ 32 ∷ 100 ∷ 105 ∷ 102 ∷ 102 ∷ 101 ∷ 114 ∷ 115 ∷ 32 ∷ 51 ∷ 48 ∷ 55 ∷ 10 ∷ [])
+    ++ (102 ∷ 97 ∷ 117 ∷ 108 ∷ 116 ∷ 115 ∷ 32 ∷ 111 ∷ 117 ∷ 116 ∷ 115 ∷ 105 ∷ 100 ∷ 101 ∷ 32 ∷ 52 ∷ 10 ∷ [])
+unfolding decimal digitsIn
+differs-printed = refl
+
+-- `refused 10 16384`
+pub refused-printed : refusedLine 10 16384
+    ≡ 114 ∷ 101 ∷ 102 ∷ 117 ∷ 115 ∷ 101 ∷ 100 ∷ 32 ∷ 49 ∷ 48 ∷ 32 ∷ 49 ∷ 54 ∷ 51 ∷ 56 ∷ 52 ∷ 10 ∷ []
+unfolding decimal digitsIn
+refused-printed = refl
