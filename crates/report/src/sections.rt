@@ -1,9 +1,11 @@
 // The page's sections, each after its count, and the page made of them.
+ghost use mathlib.Core.List.{[], _∷_, _++_};
 ghost use Prim.Native.Nat.{_+_, _*_, _≤_};
 ghost use lib.ListN.{length};
 ghost use Rattle.limits.specs.Limits.{seatsMost, roomMost};
 ghost use Rattle.ring.specs.Trail.{width};
-ghost use Rattle.report.specs.Page.{recordLine, seatLine, section, busLine, recordsAndSeats, verdictBegins, pageOf};
+ghost use Rattle.report.specs.Decimal.{decimal};
+ghost use Rattle.report.specs.Page.{lineOf, recordLine, seatLine, section, busLine, recordsAndSeats, pageOf};
 ghost use Rattle.report.specs.Promise.{pageMost};
 ghost use Rattle.report.specs.Inside.{countMost, recordMost, seatMost, Writes, Holds, resultOf};
 ghost use Rattle.run.specs.Outcome.{heard};
@@ -69,7 +71,7 @@ fn records_and_seats(page: &mut [u8], place: Place, ran: Ran, trail: &[u8]) -> P
 
 // The verdict's count and its first line.
 fn verdict_begins(page: &mut [u8], place: Place, bus: Bus) -> Place
-    ensures { λ r. ⌜ Writes (verdictBegins (busLine (heard bus))) 24 place (now (page .entry)) r (now (page .exit)) ⌝ }
+    ensures { λ r. ⌜ Writes (lineOf (decimal 2 ∷ []) ++ busLine (heard bus)) 24 place (now (page .entry)) r (now (page .exit)) ⌝ }
 {
     let next = lines::count_line(page, place, 2);
     lines::bus_line(page, next, bus)
