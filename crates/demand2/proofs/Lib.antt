@@ -8,3 +8,4 @@ pub mod Story
 pub mod Paper
 pub mod Empty
 pub mod Whole
+pub mod EmptyReader

@@ -3,3 +3,4 @@ pub mod Records
 pub mod Story
 pub mod Paper
 pub mod Empty
+pub mod EmptyReader

@@ -50,7 +50,21 @@ fn every_seat_stands(ring: Ring) -> bool
     let time = ring.time;
     let mut p: usize = 0;
     while p < limits::SEATS_MOST {
-        if !seat_stands(crate::slot::seat_of(ring, p), p, n, time) {
+        let set = ring.sets[p];
+        let ack = ring.acks[p];
+        let doubt = ring.doubts[p];
+        let fault = ring.faults[p];
+        if !seat_stands(
+            Seat {
+                set,
+                ack,
+                doubt,
+                fault,
+            },
+            p,
+            n,
+            time,
+        ) {
             return false;
         }
         p += 1;

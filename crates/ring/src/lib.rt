@@ -12,10 +12,10 @@ mod terms;
 
 // The whole ring is one value. A first fault is kept as its time plus one, and 0 is none.
 pub struct Ring {
-    pub sets: [u32; 32],
-    pub acks: [bool; 32],
-    pub doubts: [bool; 32],
-    pub faults: [u16; 32],
+    pub sets: [u32; limits::SEATS_MOST],
+    pub acks: [bool; limits::SEATS_MOST],
+    pub doubts: [bool; limits::SEATS_MOST],
+    pub faults: [u16; limits::SEATS_MOST],
     pub n: usize,
     pub time: u16,
     pub records: u16,

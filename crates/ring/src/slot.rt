@@ -1,7 +1,6 @@
 // One slot, and what one seat makes of it from its own set, bits and first fault.
 ghost use mathlib.Core.Path.{_≡_};
 ghost use Prim.Native.Nat.{_<_, _≤_};
-ghost use Rattle.ring.specs.Ring.{seatOf};
 ghost use Rattle.ring.specs.Step.{slotFor, misses, viewOf, faultAfter, ownerTurn, otherTurn, turnOf};
 use crate::Ring;
 use crate::table::Removal;
@@ -29,18 +28,6 @@ pub struct Seat {
 pub struct Turn {
     pub seat: Seat,
     pub removal: Removal,
-}
-
-pub fn seat_of(ring: Ring, p: usize) -> Seat
-    requires { ⌜ p < 32 ⌝ }
-    ensures { λ s. ⌜ s ≡ seatOf ring p ⌝ }
-{
-    Seat {
-        set: ring.sets[p],
-        ack: ring.acks[p],
-        doubt: ring.doubts[p],
-        fault: ring.faults[p],
-    }
 }
 
 // The slot of owner b: it speaks if it is in its own set and has no send mark.

@@ -8,10 +8,10 @@ pub fn zero_ring() -> Ring
     ensures { λ r. ⌜ r ≡ zeroRing ⌝ }
 {
     Ring {
-        sets: [0; 32],
-        acks: [false; 32],
-        doubts: [false; 32],
-        faults: [0; 32],
+        sets: [0; limits::SEATS_MOST],
+        acks: [false; limits::SEATS_MOST],
+        doubts: [false; limits::SEATS_MOST],
+        faults: [0; limits::SEATS_MOST],
         n: 0,
         time: 0,
         records: 0,

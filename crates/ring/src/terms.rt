@@ -39,7 +39,7 @@ fn sound_after(f: u16, g: u16) -> usize
 }
 
 // Whether the terms hold up to the step of p's first fault, as far as that fault is concerned.
-fn holds_with(faults: [u16; 32], n: usize, p: usize) -> bool
+fn holds_with(faults: [u16; limits::SEATS_MOST], n: usize, p: usize) -> bool
     requires { ⌜ (n ≤ 32) × (p < n) ⌝ }
     ensures { λ r. ⌜ r ≡ holdsWith n faults p ⌝ }
 {
@@ -58,7 +58,7 @@ fn holds_with(faults: [u16; 32], n: usize, p: usize) -> bool
 }
 
 // p's first fault where the terms fail with it, and 0 else.
-fn failing_at(faults: [u16; 32], n: usize, p: usize) -> u16
+fn failing_at(faults: [u16; limits::SEATS_MOST], n: usize, p: usize) -> u16
     requires { ⌜ (n ≤ 32) × (p < n) ⌝ }
     ensures { λ r. ⌜ r ≡ failingAt n faults p ⌝ }
 {
@@ -86,7 +86,7 @@ fn earlier_of(f: u16, g: u16) -> u16
 }
 
 // The earliest first fault with which the terms fail, and 0 where they hold.
-pub fn first_failing(faults: [u16; 32], n: usize) -> u16
+pub fn first_failing(faults: [u16; limits::SEATS_MOST], n: usize) -> u16
     requires { ⌜ n ≤ 32 ⌝ }
     ensures { λ r. ⌜ r ≡ firstFound n faults ⌝ }
 {

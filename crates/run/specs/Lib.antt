@@ -1,1 +1,4 @@
 pub mod Outcome
+pub mod Marks
+pub mod Run
+pub mod Inside

@@ -1,7 +1,17 @@
 // A sheet run: its marks slot by slot, the bus compared, the ring stepped, the trail written.
+ghost use mathlib.Core.Path.{_≡_};
+ghost use Rattle.limits.specs.Refusals.{numberOf};
+ghost use Rattle.ring.specs.Refusals.{verdictFound};
+ghost use Rattle.sheet.specs.Good.{GoodSheet};
+ghost use Rattle.run.specs.Outcome.{heard, ran, refused};
+ghost use Rattle.run.specs.Run.{runSheet, RunPromise};
+ghost use Rattle.run.specs.Inside.{spokenBy, Ended, Leaves};
 use limits::Refusal;
 use ring::Ring;
 use ring::Verdict;
+use sheet::Sheet;
+
+mod marks; // marks.rt: which marks a slot has
 
 // What the owners spoke, compared with what the bus recorder heard.
 pub enum Bus {
@@ -20,4 +30,97 @@ pub struct Ran {
     pub answer: Answer,
     pub ring: Ring,
     pub modules: [u16; limits::SEATS_MOST],
+}
+
+// What the bus recorder should hear of an owner with this set and acknowledgement.
+fn spoken(set: u32, ack: bool, owner: usize, marked: bool) -> u8
+    ensures { λ r. ⌜ r ≡ spokenBy set ack owner marked ⌝ }
+{
+    if marked {
+        return sheet::HEARD_SILENCE;
+    }
+    if seats::has(set, owner) {
+        if ack {
+            return sheet::HEARD_ONE;
+        }
+        return sheet::HEARD_ZERO;
+    }
+    sheet::HEARD_SILENCE
+}
+
+// A run that ends with this ring: what the bus showed, and the verdict.
+fn judged(bus: Bus, ring: Ring, modules: [u16; limits::SEATS_MOST]) -> Ran
+    ensures { λ r. ⌜ Ended (ran (heard bus) (verdictFound ring)) ring modules r ⌝ }
+{
+    let judged = ring.verdict();
+    let verdict = judged.verdict;
+    Ran {
+        answer: Answer::Ran(bus, verdict),
+        ring,
+        modules,
+    }
+}
+
+// A run that is refused, and has no verdict.
+fn refused(why: Refusal, place: usize, ring: Ring, modules: [u16; limits::SEATS_MOST]) -> Ran
+    ensures { λ r. ⌜ Ended (refused (numberOf why) place) ring modules r ⌝ }
+{
+    Ran {
+        answer: Answer::Refused(why, place),
+        ring,
+        modules,
+    }
+}
+
+// A fresh ring through all the slots of a sheet. Each turn gathers one mark of the slot or, when none is left, takes the slot's step:
+// so there is one turn for each slot and one for each mark, and nothing of the sheet is copied in a turn.
+fn through(sheet: Sheet, trail: &mut [u8]) -> Ran
+    requires { ⌜ GoodSheet sheet ⌝ }
+    ensures { λ r. ⌜ Leaves (runSheet sheet (now (trail .entry))) r (now (trail .exit)) ⌝ }
+{
+    let n = sheet.n;
+    let modules = sheet.modules;
+    let mut ring = Ring::zero().fresh(n).ring;
+    let mut gathered = marks::none_gathered();
+    let mut at: usize = 0;
+    while at < sheet.slot_count {
+        let next = gathered.next;
+        if next < sheet.mark_count {
+            let mark = sheet.marks[next];
+            if (mark.time as usize) == at {
+                gathered = marks::with_mark(gathered, mark);
+                continue;
+            }
+        }
+        let owner = at % n;
+        let given = marks::given_by(gathered, owner);
+        if spoken(ring.sets[owner], ring.acks[owner], owner, given.send) != sheet.slots[at] {
+            return judged(Bus::Differs(at as u16), ring, modules);
+        }
+        let stepped = ring.step(given.send, given.receive, trail);
+        ring = stepped.ring;
+        let answer = stepped.answer;
+        if let ring::Answer::Refused(why, place) = answer {
+            return refused(why, place as usize, ring, modules);
+        }
+        gathered = marks::slot_over(gathered);
+        at += 1;
+    }
+    judged(Bus::Agrees, ring, modules)
+}
+
+// Read the sheet and run it. A refused sheet takes no step, leaves the trail and gives the zero ring.
+pub fn run(bytes: &[u8], trail: &mut [u8]) -> Ran
+    ensures { λ r. ⌜ RunPromise (now (bytes .entry)) (now (trail .entry)) r (now (trail .exit)) ⌝ }
+{
+    let reading = sheet::read(bytes);
+    let answer = reading.answer;
+    let sheet = reading.sheet;
+    match answer {
+        sheet::Answer::Read => through(sheet, trail),
+        sheet::Answer::Refused(why, place) => {
+            let modules = sheet.modules;
+            refused(why, place, Ring::zero(), modules)
+        }
+    }
 }

@@ -10,15 +10,19 @@ use lib.ListN.{length, getD, set, length-set, length-replicate, getD-replicate}
 use lib.Seq.{getD-set-same, getD-set-other}
 use lib.Dec.{eqb}
 use borrow.Author.Tests.{ne-eqb, eqb-false, not-true}
+use Rattle.limits.specs.Limits.{seatsMost, marksMost, slotsMost, moduleMost}
 use Rattle.lists.proofs.Tests.{all-at}
-use Rattle.sheet.specs.Found.{Found, found}
+use Rattle.limits.specs.Refusals.{done}
+use Rattle.sheet.specs.Found.{Found, found, offence}
 use Rattle.sheet.specs.Bytes.{isKind, isHeard}
 use Rattle.sheet.specs.Lines.{linesAt, isNew, moduleLine, slotLine}
 use Rattle.sheet.specs.Marks.{noMark, above, ascends, markLine}
-use Rattle.sheet.specs.Sheets.{noModules, noMarks, noSlots, sheetIn}
+use Rattle.sheet.specs.Sheets.{noModules, noMarks, noSlots, sheetIn, told, toldOf, sheetOf, ReadPromise}
 use Rattle.sheet.specs.Good.{GoodSheet}
 use Rattle.sheet.specs.declared.Mark.{Mark}
 use Rattle.sheet.specs.declared.Sheet.{Sheet}
+use Rattle.sheet.specs.declared.Answer.the-variants.{Read}
+use Rattle.sheet.specs.declared.Reading.{Reading}
 use Rattle.sheet.proofs.LineLaws.{then-found, line-within, lone-found}
 use Rattle.sheet.proofs.MarkLaws.{Kept, good-mark, fields-found}
 use Rattle.sheet.proofs.GoodLaws.{lines-others, module-found, slot-found, mark-line-found, sheet-found}
@@ -58,7 +62,7 @@ module _ {A : Type 0} (d : A) (line : ℕ → ℕ → List A → Found (List A))
 -- ---- the three sections
 
 abbrev ModuleHolds : ℕ → List ℕ → ℕ → Type 0
-ModuleHolds k before a = (1 ≤ a) × (a ≤ 65535) × ((j : ℕ) → j < k → getD before j 0 ≡ a → ⊥)
+ModuleHolds k before a = (1 ≤ a) × (a ≤ moduleMost) × ((j : ℕ) → j < k → getD before j 0 ≡ a → ⊥)
 
 abbrev MarkHolds : ℕ → ℕ → List Mark → Mark → Type 0
 MarkHolds n k before m = Kept n k (getD before (k - 1) noMark) m × (isKind (m .kind) ≡ true)
@@ -81,7 +85,7 @@ module _ (s : List ℕ) where
   makes-module : Makes 0 (moduleLine s) ModuleHolds
   makes-module at k before after next e =
       let f = module-found s at k before after next e in
-      let w = line-within 1 65535 s at (f .number) next (f .read) in
+      let w = line-within 1 moduleMost s at (f .number) next (f .read) in
       (f .number, f .kept, (w .0, w .1, new-differs (f .number) k before (f .new)))
 
   looks-module : Looks 0 (moduleLine s) ModuleHolds
@@ -115,9 +119,9 @@ read-good s sheet end e =
     let m = g .marks-is in
     let h = g .slots-is in
     let n = g .ring .count in
-    let ring = lines-each 0 (moduleLine s) ModuleHolds (makes-module s) (looks-module s) _ _ 0 _ _ _ (r .lines) (omega (arith, r .high, length-replicate {A = ℕ} 32 0)) in
-    let marks = lines-each noMark (markLine n s) (MarkHolds n) (makes-mark s n) (looks-mark s n) _ _ 0 _ _ _ (m .lines) (omega (arith, m .high, length-replicate 256 noMark)) in
-    let slots = lines-each 0 (slotLine s) SlotHolds (makes-slot s) (λ k b a x f y. y) _ _ 0 _ _ _ (h .lines) (omega (arith, h .high, length-replicate {A = ℕ} 4096 0)) in
+    let ring = lines-each 0 (moduleLine s) ModuleHolds (makes-module s) (looks-module s) _ _ 0 _ _ _ (r .lines) (omega (arith, r .high, length-replicate {A = ℕ} seatsMost 0)) in
+    let marks = lines-each noMark (markLine n s) (MarkHolds n) (makes-mark s n) (looks-mark s n) _ _ 0 _ _ _ (m .lines) (omega (arith, m .high, length-replicate marksMost noMark)) in
+    let slots = lines-each 0 (slotLine s) SlotHolds (makes-slot s) (λ k b a x f y. y) _ _ 0 _ _ _ (h .lines) (omega (arith, h .high, length-replicate {A = ℕ} slotsMost 0)) in
     rw (g .whole)
     (record {
       seats = (r .low, r .high);
@@ -133,11 +137,19 @@ read-good s sheet end e =
       heard = λ i l. slots i (omega arith) (omega arith);
       no-modules = λ i l k.
           lines-others 0 (moduleLine s) (λ at k b a n q. let f = makes-module s at k b a n q in (f .0, f .1)) _ _ 0 _ _ _ (r .lines) i (inr (omega arith))
-          ∙ getD-replicate 32 i 0 0 k;
+          ∙ getD-replicate seatsMost i 0 0 k;
       no-marks = λ i l k.
           lines-others noMark (markLine n s) (λ at k b a o q. let f = makes-mark s n at k b a o q in (f .0, f .1)) _ _ 0 _ _ _ (m .lines) i (inr (omega arith))
-          ∙ getD-replicate 256 i noMark noMark k;
+          ∙ getD-replicate marksMost i noMark noMark k;
       no-slots = λ i l k.
           lines-others 0 (slotLine s) (λ at k b a n q. let f = makes-slot s at k b a n q in (f .0, f .1)) _ _ 0 _ _ _ (h .lines) i (inr (omega arith))
-          ∙ getD-replicate 4096 i 0 0 k;
+          ∙ getD-replicate slotsMost i 0 0 k;
     })
+
+-- for callers: a reading that answers `Read` has a good sheet beside the answer
+pub reading-good : (bytes : List ℕ) (r : Reading) → ReadPromise bytes r → r .answer ≡ Read → GoodSheet (r .sheet)
+reading-good bytes r p a = go (sheetIn bytes) refl (ap told (sym a) ∙ p .answer) (p .sheet)
+  where
+    go : (x : Found Sheet) → sheetIn bytes ≡ x → done ≡ toldOf x → r .sheet ≡ sheetOf x → GoodSheet (r .sheet)
+    go (found sheet end) q t s = rw s (read-good bytes sheet end q)
+    go (offence why place) q t s = let z : _≡_ {A = ℕ} 0 1 = cc in absurd (omega arith)

@@ -9,6 +9,7 @@ use native.Mathlib.Omega.{arith}
 use lib.ListN.{length}
 use lib.Dec.{eqb, lit<}
 use borrow.Author.Tests.{eqb-false}
+use Rattle.limits.specs.Limits.{seatsLeast, seatsMost, marksMost, slotsMost, moduleMost}
 use Rattle.sheet.specs.Found.{Found, found, offence, onFound, andThen}
 use Rattle.sheet.specs.Bytes.{isDigit, isSpace, isLineFeed, byteAt, digitsAt, numberAt}
 use Rattle.sheet.specs.Lines.{endAt, ended, lineAt, linesAt}
@@ -121,9 +122,9 @@ longest s sheet end e =
     let r = g .ring-is in
     let m = g .marks-is in
     let h = g .slots-is in
-    let r1 = line-short 2 32 s 0 _ _ (r .counted) 1 (lit< tt) in
-    let r2 = lines-short _ 6 (λ at k b a n q. let z = line-short 1 65535 s at _ n (module-found s at k b a n q .read) 4 (lit< tt) in omega arith) _ _ 0 _ _ _ (r .lines) in
-    let m1 = line-short 0 256 s _ _ _ (m .counted) 2 (lit< tt) in
+    let r1 = line-short seatsLeast seatsMost s 0 _ _ (r .counted) 1 (lit< tt) in
+    let r2 = lines-short _ 6 (λ at k b a n q. let z = line-short 1 moduleMost s at _ n (module-found s at k b a n q .read) 4 (lit< tt) in omega arith) _ _ 0 _ _ _ (r .lines) in
+    let m1 = line-short 0 marksMost s _ _ _ (m .counted) 2 (lit< tt) in
     let m2 = lines-short _ 10 (λ at k b a n q.
     let x = mark-line-found (g .ring .count) s at k b a n q in
     let w = good-mark (g .ring .count) k _ (x .one) (x .good) in
@@ -132,6 +133,6 @@ longest s sheet end e =
     let p = spaced-short s (f .seatAt) (x .one .seat) (f .kindAt) (f .seat) 1 (omega arith) in
     let z = lone-short _ s (f .kindAt) _ n (f .kind) in
     omega arith) _ _ 0 _ _ _ (m .lines) in
-    let h1 = line-short 0 4096 s _ _ _ (h .counted) 3 (lit< tt) in
+    let h1 = line-short 0 slotsMost s _ _ _ (h .counted) 3 (lit< tt) in
     let h2 = lines-short _ 2 (λ at k b a n q. lone-short _ s at _ n (slot-found s at k b a n q .read)) _ _ 0 _ _ _ (h .lines) in
     omega arith

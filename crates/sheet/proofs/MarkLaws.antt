@@ -7,6 +7,7 @@ use Prim.Native.Nat.{ℕ, _<_}
 use native.Mathlib.Omega.{arith}
 use lib.Dec.{ltb}
 use borrow.Author.Tests.{ltb-true}
+use Rattle.limits.specs.Limits.{slotsMost}
 use Rattle.lists.proofs.Tests.{and-true}
 use Rattle.limits.specs.declared.Refusal.the-variants.{OutsideLimits, MarkNotAbove, WrongMark}
 use Rattle.sheet.specs.Found.{found}
@@ -18,7 +19,7 @@ use Rattle.sheet.proofs.LineLaws.{then-found, found-value, found-next}
 
 -- a mark without an offence keeps to all that a mark must keep to
 pub record Kept (n k : ℕ) (last m : Mark) : Type 0 where
-  pub time : m .time < 4096
+  pub time : m .time < slotsMost
   pub seat : m .seat < n
   pub above : ascends k last m ≡ true
   pub allows : allowed n m ≡ true
@@ -30,7 +31,7 @@ good-mark n k last m e = go (markWithin n m) (ascends k last m) (allowed n m) re
     go : (a b c : Bool) → markWithin n m ≡ a → ascends k last m ≡ b → allowed n m ≡ c
         → cond a (cond b (cond c none (some WrongMark)) (some MarkNotAbove)) (some OutsideLimits) ≡ none → Kept n k last m
     go true true true p q r h =
-        let b = and-true (ltb (m .time) 4096) (ltb (m .seat) n) p in
+        let b = and-true (ltb (m .time) slotsMost) (ltb (m .seat) n) p in
         record { time = ltb-true _ _ (b .0); seat = ltb-true _ _ (b .1); above = q; allows = r }
     go true true false p q r h = let z : _≡_ {A = ℕ} 0 1 = cc in absurd (omega arith)
     go true false c p q r h = let z : _≡_ {A = ℕ} 0 1 = cc in absurd (omega arith)

@@ -6,7 +6,7 @@ ghost use Rattle.sheet.specs.Inside.{classOf, codeOf, canBe, foundOf};
 use limits::Refusal;
 
 // What a byte of a sheet can be. 0 and 1 are digits, and are heard on the bus too.
-pub enum Class {
+enum Class {
     Bit,
     Digit,
     Space,

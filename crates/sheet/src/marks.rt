@@ -15,13 +15,13 @@ use crate::numbers;
 use limits::Refusal;
 
 // A mark line's fields and the place after them, or the offence.
-pub enum Line {
+enum Line {
     Fields(usize, usize, u8, usize),
     Offence(Refusal, usize),
 }
 
 // What a mark's values come to.
-pub enum Check {
+enum Check {
     Good,
     Bad(Refusal),
 }
@@ -115,7 +115,7 @@ fn first_offence(n: usize, k: usize, last: Mark, time: usize, seat: usize, kind:
     Check::Bad(Refusal::MarkNotAbove)
 }
 
-pub fn no_mark() -> Mark
+fn no_mark() -> Mark
     ensures { λ r. ⌜ r ≡ noMark ⌝ }
 {
     Mark {

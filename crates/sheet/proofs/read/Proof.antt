@@ -2,6 +2,7 @@
 use borrow.Author.Needs.{needs}
 use mathlib.Core.Path.{sym, ap, _∙_}
 use native.Mathlib.Omega.{arith}
+use Rattle.limits.specs.Limits.{seatsLeast, seatsMost}
 use Rattle.sheet.specs.Lines.{section}
 use Rattle.sheet.specs.Sheets.{sheetFrom, sheetIn}
 use Rattle.sheet.specs.Inside.{sectionOf}
@@ -25,7 +26,7 @@ enum-known-ring-end-2 c = search needs
 mark-section-requires : tie.Need-mark-section-requires
 mark-section-requires c κs =
     let ring = c .before .before .before .ring-section in
-    let g = section-found 2 32 _ _ _ _ _ _ (sym (ring .ensures) ∙ ap (sectionOf (ring .result .list)) (c .before .ring-end2 .given .1)) in
+    let g = section-found seatsLeast seatsMost _ _ _ _ _ _ (sym (ring .ensures) ∙ ap (sectionOf (ring .result .list)) (c .before .ring-end2 .given .1)) in
     (omega arith, g .high)
 
 enum-known-marks-end : tie.Need-enum-known-marks-end

@@ -21,25 +21,38 @@ Inv-loop ring n time p₀ p = (p ≤ 32) × (allBelow p (stands ring) ≡ true)
 abbrev μ-loop : tie.MeasureT-loop
 μ-loop ring n time p₀ p = 32 - p
 
-seen : (c : tie.After-seat-stands Inv-loop μ-loop) → let at = c .before .before .before in c .seat-stands .result ≡ stands (at .before .args .ring) (at .loop .p)
+seen : (c : tie.After-seat-stands Inv-loop μ-loop) → let at = c .before .before .before .before .before .before in c .seat-stands .result ≡ stands (at .before .args .t1) (at .loop .p)
 seen c =
-    let at = c .before .before .before in
-    let r = at .before .args .ring in
-    c .seat-stands .ensures ∙ ap (seatStands (r .n) (r .time) (at .loop .p)) (c .before .seat-of .ensures)
+    c .seat-stands .ensures
 
 loop-holds : tie.Need-loop-holds Inv-loop μ-loop
 loop-holds c = (search needs, refl)
 
-seat-of-requires : tie.Need-seat-of-requires Inv-loop μ-loop
-seat-of-requires c κs = search needs
+mul-set : tie.Need-mul-set Inv-loop μ-loop
+mul-set c = search needs
+
+element-copy-out-set : tie.Need-element-copy-out-set Inv-loop μ-loop
+element-copy-out-set c = search needs
+
+element-copy-out-ack : tie.Need-element-copy-out-ack Inv-loop μ-loop
+element-copy-out-ack c = search needs
+
+element-copy-out-doubt : tie.Need-element-copy-out-doubt Inv-loop μ-loop
+element-copy-out-doubt c = search needs
+
+mul-fault : tie.Need-mul-fault Inv-loop μ-loop
+mul-fault c = search needs
+
+element-copy-out-fault : tie.Need-element-copy-out-fault Inv-loop μ-loop
+element-copy-out-fault c = search needs
 
 seat-stands-requires : tie.Need-seat-stands-requires Inv-loop μ-loop
 seat-stands-requires c κs = search needs
 
 returns : tie.Need-returns Inv-loop μ-loop
 unfolding everySeatStands
-returns c = let at = c .before .before .before .before in
-    sym (all-fails (stands (at .before .args .ring)) 32 (at .loop .p) (c .before .before .before .loop-test .taken) (sym (seen (c .before)) ∙ not-true _ (c .if1 .taken)))
+returns c = let at = c .before .before .before .before .before .before .before in
+    sym (all-fails (stands (at .before .args .t1)) 32 (at .loop .p) (c .before .before .before .before .before .before .loop-test .taken) (sym (seen (c .before)) ∙ not-true _ (c .if1 .taken)))
 
 add-p : tie.Need-add-p Inv-loop μ-loop
 add-p c = search needs
@@ -48,14 +61,14 @@ loop-less : tie.Need-loop-less Inv-loop μ-loop
 loop-less c = search needs
 
 loop-again : tie.Need-loop-again Inv-loop μ-loop
-loop-again c = let at = c .before .before .before .before in
-    (search needs, all-more (stands (at .before .args .ring)) (at .loop .p) (at .loop .inv .1) (sym (seen (c .before)) ∙ not-false _ (c .if1 .left)))
+loop-again c = let at = c .before .before .before .before .before .before .before in
+    (search needs, all-more (stands (at .before .args .t1)) (at .loop .p) (at .loop .inv .1) (sym (seen (c .before)) ∙ not-false _ (c .if1 .left)))
 
 returns-2 : tie.Need-returns-2 Inv-loop μ-loop
 unfolding everySeatStands
 returns-2 c = let at = c .before in
     let e : at .loop .p ≡ 32 = omega arith in
-    sym (ap (λ (x : ℕ). allBelow x (stands (at .before .args .ring))) (sym e) ∙ at .loop .inv .1)
+    sym (ap (λ (x : ℕ). allBelow x (stands (at .before .args .t1))) (sym e) ∙ at .loop .inv .1)
 
 pub every-seat-stands-spec : {M : Type 1} → statement M
 every-seat-stands-spec =
@@ -64,7 +77,12 @@ every-seat-stands-spec =
     Inv-loop
     μ-loop
     loop-holds
-    seat-of-requires
+    mul-set
+    element-copy-out-set
+    element-copy-out-ack
+    element-copy-out-doubt
+    mul-fault
+    element-copy-out-fault
     seat-stands-requires
     returns
     add-p

@@ -5,6 +5,7 @@ use mathlib.Core.Path.{_≡_, sym, ap, _∙_}
 use native.Mathlib.Omega.{arith}
 use lib.ListN.{length, getD, length-set}
 use lib.Seq.{getD-set-same}
+use Rattle.limits.specs.Limits.{marksMost, slotsMost}
 use Rattle.sheet.specs.Marks.{noMark, markLine}
 use Rattle.sheet.specs.Sheets.{noMarks}
 use Rattle.sheet.specs.Inside.{offenceOf}
@@ -15,7 +16,7 @@ use Rattle.sheet.proofs.marks.mark_lines.Tie as tie
 
 abbrev Inv-loop : tie.InvT-loop
 Inv-loop s start n count list₀ last₀ at₀ k₀ list last at k =
-    Reached (markLine n s) count start noMarks at k list × (last ≡ getD list (k - 1) noMark) × (length list ≡ 256)
+    Reached (markLine n s) count start noMarks at k list × (last ≡ getD list (k - 1) noMark) × (length list ≡ marksMost)
 
 abbrev μ-loop : tie.MeasureT-loop
 μ-loop s start n count list₀ last₀ at₀ k₀ list last at k = count - k
@@ -63,7 +64,7 @@ enum-told : tie.Need-enum-told Inv-loop μ-loop
 enum-told c = search needs
 
 -- a mark without an offence is within its limits
-within : (c : tie.After-enum-told Inv-loop μ-loop) → (c .before .before .before .before .time .given .0 .0 < 4096) × (c .before .before .before .before .time .given .0 .1 .0 < c .before .before .before .before .before .before .before .before .before .before .before .before .args .n)
+within : (c : tie.After-enum-told Inv-loop μ-loop) → (c .before .before .before .before .time .given .0 .0 < slotsMost) × (c .before .before .before .before .time .given .0 .1 .0 < c .before .before .before .before .before .before .before .before .before .before .before .before .args .n)
 within c =
     let g = good-mark _ _ _ _ (sym (c .before .before .first-offence .ensures) ∙ ap offenceOf (c .enum-told .given .1)) in
     (g .time, g .seat)

@@ -2,6 +2,7 @@
 use borrow.Author.Needs.{needs}
 use mathlib.Core.Path.{sym, ap, _∙_}
 use native.Mathlib.Omega.{arith}
+use Rattle.limits.specs.Limits.{marksMost}
 use Rattle.sheet.specs.Lines.{sectionAt}
 use Rattle.sheet.specs.Inside.{foundOf}
 use Rattle.sheet.proofs.LineLaws.{line-within}
@@ -25,7 +26,7 @@ unfolding sectionAt
 returns c = rw (← c .before .before .before .line .ensures, c .before .enum-told .given .1)
 
 mark-lines-requires : tie.Need-mark-lines-requires
-mark-lines-requires c κs = omega (arith, line-within 0 256 _ _ _ _ (sym (c .before .before .before .line .ensures) ∙ ap foundOf (c .before .count .given .1)))
+mark-lines-requires c κs = omega (arith, line-within 0 marksMost _ _ _ _ (sym (c .before .before .before .line .ensures) ∙ ap foundOf (c .before .count .given .1)))
 
 returns-2 : tie.Need-returns-2
 unfolding sectionAt

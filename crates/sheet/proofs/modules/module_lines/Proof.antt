@@ -6,6 +6,7 @@ use mathlib.Core.Logic.{⊎-elim}
 use native.Mathlib.Omega.{arith}
 use lib.ListN.{getD}
 use borrow.Author.Count.{below-more}
+use Rattle.limits.specs.Limits.{moduleMost}
 use Rattle.limits.specs.declared.Refusal.the-variants.{ModuleTwice}
 use Rattle.sheet.specs.Lines.{moduleLine}
 use Rattle.sheet.specs.Sheets.{noModules}
@@ -51,7 +52,7 @@ returns c =
     rw (g .1, stops _ _ _ _ _ _ _ (c .before .before .before .before .lines .inv) (c .before .before .before .lines-test .taken) (g .0 .0) (g .0 .1 .0) (rw (← c .before .before .line .ensures, g .1)))
 
 cast-number : tie.Need-cast-number Inv-loop μ-loop Inv-lines μ-lines
-cast-number c = omega (arith, line-within 1 65535 _ _ _ _ (sym (c .before .before .before .line .ensures) ∙ ap foundOf (c .before .one .given .1)))
+cast-number c = omega (arith, line-within 1 moduleMost _ _ _ _ (sym (c .before .before .before .line .ensures) ∙ ap foundOf (c .before .one .given .1)))
 
 loop-holds : tie.Need-loop-holds Inv-loop μ-loop Inv-lines μ-lines
 loop-holds c = search needs

@@ -2,6 +2,7 @@
 use borrow.Author.Needs.{needs}
 use mathlib.Core.Path.{sym, ap, _∙_}
 use native.Mathlib.Omega.{arith}
+use Rattle.limits.specs.Limits.{seatsLeast, seatsMost}
 use Rattle.sheet.specs.Lines.{sectionAt}
 use Rattle.sheet.specs.Inside.{foundOf}
 use Rattle.sheet.proofs.LineLaws.{line-within}
@@ -25,7 +26,7 @@ unfolding sectionAt
 returns c = rw (← c .before .before .before .line .ensures, c .before .enum-told .given .1)
 
 module-lines-requires : tie.Need-module-lines-requires
-module-lines-requires c κs = omega (arith, line-within 2 32 _ _ _ _ (sym (c .before .before .before .line .ensures) ∙ ap foundOf (c .before .count .given .1)))
+module-lines-requires c κs = omega (arith, line-within seatsLeast seatsMost _ _ _ _ (sym (c .before .before .before .line .ensures) ∙ ap foundOf (c .before .count .given .1)))
 
 returns-2 : tie.Need-returns-2
 unfolding sectionAt

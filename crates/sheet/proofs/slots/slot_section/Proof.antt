@@ -2,6 +2,7 @@
 use borrow.Author.Needs.{needs}
 use mathlib.Core.Path.{sym, ap, _∙_}
 use native.Mathlib.Omega.{arith}
+use Rattle.limits.specs.Limits.{slotsMost}
 use Rattle.sheet.specs.Lines.{sectionAt}
 use Rattle.sheet.specs.Inside.{foundOf}
 use Rattle.sheet.proofs.LineLaws.{line-within}
@@ -28,7 +29,7 @@ unfolding sectionAt
 returns c = rw (← c .before .before .before .line .ensures, c .before .enum-told .given .1)
 
 slot-lines-requires : tie.Need-slot-lines-requires
-slot-lines-requires c κs = omega (arith, line-within 0 4096 _ _ _ _ (sym (c .before .before .before .line .ensures) ∙ ap foundOf (c .before .count .given .1)))
+slot-lines-requires c κs = omega (arith, line-within 0 slotsMost _ _ _ _ (sym (c .before .before .before .line .ensures) ∙ ap foundOf (c .before .count .given .1)))
 
 returns-2 : tie.Need-returns-2
 unfolding sectionAt

@@ -1,0 +1,46 @@
+-- Neither empty program keeps the promise of `read` (specs/EmptyReader.antt): the empty sheet is refused, and lines 2, 7, 8, 0, 0 are read.
+use mathlib.Core.List.{List, [], _∷_}
+use mathlib.Core.Path.{_≡_, refl, sym, ap, _∙_}
+use Prim.Native.Nat.{ℕ}
+use native.Mathlib.Omega.{arith}
+use Rattle.limits.specs.Refusals.{Told, done, refused}
+use Rattle.sheet.specs.Bytes.{byteAt, digitsAt, numberAt}
+use Rattle.sheet.specs.Lines.{endAt, ended, lineAt, linesAt, sectionAt, isNew, moduleLine, slotLine}
+use Rattle.sheet.specs.Marks.{markOffence, spacedAt, fieldsAt, markLine}
+use Rattle.sheet.specs.Sheets.{noModules, noMarks, noSlots, sheetIn, told, toldOf}
+use Rattle.sheet.specs.declared.Reading.{Reading}
+use Rattle.demand2.specs.EmptyReader.{Reader, Keeps, RefusesAll, Constant}
+
+-- ---- what is said
+
+abbrev pub ShutOut : (Reader → Type 0) → Type 0
+ShutOut Kind = (f : Reader) → Kind f → Keeps f → ⊥
+
+-- ---- the two sheets at which they are caught
+
+good : List ℕ
+good = 50 ∷ 10 ∷ 55 ∷ 10 ∷ 56 ∷ 10 ∷ 48 ∷ 10 ∷ 48 ∷ 10 ∷ []
+
+good-read : toldOf (sheetIn good) ≡ done
+unfolding good sheetIn sectionAt linesAt moduleLine isNew slotLine markLine fieldsAt spacedAt markOffence lineAt ended endAt numberAt digitsAt byteAt noModules noMarks noSlots
+good-read = refl
+
+empty-refused : toldOf (sheetIn []) ≡ refused 1 0
+unfolding sheetIn sectionAt lineAt ended endAt numberAt digitsAt byteAt noModules
+empty-refused = refl
+
+never : (a : Told) {number place : ℕ} → a ≡ done → a ≡ refused number place → ⊥
+never a p q = let z : _≡_ {A = ℕ} 0 1 = cc in omega arith
+
+-- ---- the theorems
+
+pub refuses-all-read : ShutOut RefusesAll
+refuses-all-read f all keeps =
+    let x = all good in
+    never (told (f good .answer)) (keeps good .answer ∙ good-read) (x .2)
+
+pub constant-read : ShutOut Constant
+constant-read f (r, same) keeps =
+    never (told (r .answer))
+    (ap (λ (x : Reading). told (x .answer)) (sym (same good)) ∙ keeps good .answer ∙ good-read)
+    (ap (λ (x : Reading). told (x .answer)) (sym (same [])) ∙ keeps [] .answer ∙ empty-refused)

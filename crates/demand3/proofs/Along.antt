@@ -1,0 +1,74 @@
+-- Every ring that a run comes to is read as a state of which the model's invariant holds, if the fault terms hold of it. Assumes nothing.
+use mathlib.Core.List.{List}
+use mathlib.Core.Path.{_≡_, refl, sym, ap, _∙_, subst}
+use Prim.Native.Nat.{ℕ, zero, suc, _≤_, _<_}
+use lib.ListN.{getD, replicate}
+use Rattle.seats.specs.Sets.{hasSeat}
+use Rattle.seats.proofs.Sets.{full-has}
+use Rattle.ring.specs.Ring.{seatOf, freshSeat, zeroRing, freshRing}
+use Rattle.ring.specs.declared.Ring.{Ring}
+use Rattle.ring.specs.declared.slot.Seat.{Seat}
+use Rattle.steps.specs.Run.{Marks, Bench, Reached}
+use Rattle.steps.proofs.Drawn.{undrawn-seat}
+use Rattle.steps.proofs.Reached.{fresh-n, fresh-seat, benchAfter, reached-elim}
+use Rattle.demand3.specs.Model.{Given, Fresh, Terms, step}
+use Rattle.demand3.proofs.Seat.{back-terms}
+use Rattle.demand3.proofs.Kept.{Kept, fresh-kept, step-kept}
+use Rattle.demand3.proofs.View.{stateOf, givenOf, EmptyBeyond, empty-after, state-after}
+
+-- ---- a fresh ring
+
+all-same : {A : Type 0} (k i : ℕ) (a : A) → getD (replicate k a) i a ≡ a
+all-same zero i a = refl
+all-same (suc k) zero a = refl
+all-same (suc k) (suc i) a = all-same k i a
+
+zero-empty : (p : ℕ) → seatOf zeroRing p .set ≡ 0
+unfolding zeroRing
+zero-empty p = all-same 32 p 0
+
+fresh-empty : (n : ℕ) → EmptyBeyond (freshRing n)
+unfolding freshRing
+fresh-empty n p h = ap (λ (s : Seat). s .set) (undrawn-seat n zeroRing (λ q. freshSeat n) p h) ∙ zero-empty p
+
+module _ (n : ℕ) (low : 2 ≤ n) (high : n ≤ 32) where
+  seat-is : (p : ℕ) → p < freshRing n .n → seatOf (freshRing n) p ≡ freshSeat n
+  seat-is p h = fresh-seat n p (rw (fresh-n n) at h)
+
+  fresh-state : Fresh (stateOf (freshRing n))
+  fresh-state = record {
+    size = rw (fresh-n n) low;
+    full = λ {p} {q} hp hq. ap (λ (s : Seat). hasSeat (s .set) q) (seat-is p hp) ∙ full-has n q high (rw (fresh-n n) at hq);
+    says = λ {p} h. ap (λ (s : Seat). s .ack) (seat-is p h);
+    sure = λ {p} h. ap (λ (s : Seat). s .doubt) (seat-is p h);
+    clean = λ {p} h. ap (λ (s : Seat). s .fault) (seat-is p h);
+  }
+
+-- ---- a run
+
+-- the model's invariant, where the fault terms hold of the ring itself: that they held before is no assumption
+pub record Follows (b : Bench) : Type 0 where
+  pub empty : EmptyBeyond (b .ring)
+  pub kept : Terms (stateOf (b .ring)) → Kept (stateOf (b .ring))
+
+follows-step : (m : Marks) (b : Bench) → Follows b → Follows (benchAfter m b)
+follows-step m b w = record { empty = empty-after r (m .send) (m .receive) (w .empty); kept = λ t. subst Kept (sym is) (next (subst Terms is t)) }
+  where
+    r : Ring
+    r = b .ring
+
+    given : Given
+    given = givenOf r (m .send) (m .receive)
+
+    is : stateOf (benchAfter m b .ring) ≡ step given
+    is = state-after r (m .send) (m .receive) (w .empty)
+
+    next : Terms (step given) → Kept (step given)
+    next t = step-kept given (w .kept (back-terms given t)) t
+
+module _ (n : ℕ) (trail : List ℕ) (low : 2 ≤ n) (high : n ≤ 32) where
+  pub along : {b : Bench} → Reached n trail b → Follows b
+  along =
+      reached-elim n trail low high Follows
+      (record { empty = fresh-empty n; kept = λ t. fresh-kept (stateOf (freshRing n)) (fresh-state n low high) })
+      (λ m b s e. follows-step m b)

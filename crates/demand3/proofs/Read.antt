@@ -1,0 +1,84 @@
+-- Agreement of the ring, read off the state that the ring is read as. Assumes nothing.
+use mathlib.Core.Bool.{true, false, not}
+use mathlib.Core.Logic.{_⊎_, inl, inr, ⊎-elim}
+use mathlib.Core.Path.{_≡_, sym, ap, _∙_}
+use Prim.Native.Nat.{ℕ, suc, _-_, _%_, _^_, _<_}
+use native.Mathlib.Nat.{pow-suc, div-self}
+use native.Mathlib.Numerals.{add-one}
+use native.Mathlib.Omega.{arith}
+use lib.Dec.{eqb}
+use lib.Pow.{pow-pos, pow-mono}
+use borrow.Author.Tests.{eqb-true, eq-eqb, ne-eqb}
+use Rattle.seats.specs.Sets.{hasSeat}
+use Rattle.seats.proofs.Sets.{nobody-in, same-sets, without-is, without-other}
+use Rattle.ring.specs.Ring.{seatOf, out}
+use Rattle.ring.specs.declared.Ring.{Ring}
+use Rattle.steps.specs.Valid.{Valid}
+use Rattle.demand3.specs.Faults.{SoundSeat, FirstFault}
+use Rattle.demand3.specs.Demand.{Agreement}
+use Rattle.demand3.specs.Model.{Sound, Faulty, Agrees}
+use Rattle.demand3.proofs.Seat.{same?}
+use Rattle.demand3.proofs.View.{stateOf}
+
+-- ---- the set that holds one seat alone
+
+alone-self : (x : ℕ) → hasSeat (2 ^ x) x ≡ true
+alone-self x = eq-eqb _ _ (ap (λ (k : ℕ). k % 2) (div-self (pow-pos x)))
+
+alone-has : (x q : ℕ) → hasSeat (2 ^ x) q ≡ eqb q x
+alone-has x q =
+    ⊎-elim
+    (λ e. ap (hasSeat (2 ^ x)) e ∙ alone-self x ∙ sym (eq-eqb q x e))
+    (λ n.
+    let z : 2 ^ x - 2 ^ x ≡ 0 = omega arith in
+    sym (without-other (2 ^ x) x q n)
+    ∙ ap (λ (s : ℕ). hasSeat s q) (without-is (2 ^ x) x (alone-self x) ∙ z)
+    ∙ nobody-in q
+    ∙ sym (ne-eqb q x n))
+    (same? q x)
+
+alone-below : (x n : ℕ) → x < n → 2 ^ x < 2 ^ n
+alone-below x n h = omega (arith, pow-mono {i = suc x} {j = n} h, pow-suc 2 x, pow-pos x)
+
+-- ---- sound and faulty seats, of the ring and of the state
+
+module _ (r : Ring) where
+  pub to-sound : {p : ℕ} → SoundSeat r p → Sound (stateOf r) p
+  to-sound s = record { seat = s .seat; clean = eqb-true _ _ (s .never) }
+
+  pub from-sound : {p : ℕ} → Sound (stateOf r) p → SoundSeat r p
+  from-sound {p} s = record { seat = s .seat; never = eq-eqb (seatOf r p .fault) 0 (s .clean) }
+
+  pub to-faulty : {x t : ℕ} → FirstFault r x t → Faulty (stateOf r) x t
+  to-faulty {x} {t} y = record { seat = y .seat; since = y .since ∙ add-one t }
+
+  pub from-faulty : {x t : ℕ} → Faulty (stateOf r) x t → FirstFault r x t
+  from-faulty {x} {t} y = record { seat = y .seat; since = y .since ∙ sym (add-one t) }
+
+  -- ---- agreement, read off the state
+
+  module _ (room : ℕ) (v : Valid r room) (a : Agrees (stateOf r)) where
+    inside : {p : ℕ} → p < r .n → seatOf r p .set < 2 ^ r .n
+    inside {p} h = v .member p h .inside
+
+    pub agreement : Agreement r
+    agreement = record {
+      same-set = λ {p} {q} sp sq.
+          same-sets (r .n) (seatOf r p .set) (seatOf r q .set) (inside (sp .seat)) (inside (sq .seat))
+          (a .one-set (to-sound sp) (to-sound sq));
+      same-ack = λ sp sq. a .one-ack (to-sound sp) (to-sound sq);
+      sound-in = λ sp sq. a .sound-in (to-sound sp) (to-sound sq);
+      one-faulty = λ sp fx fy. a .one-faulty (to-sound sp) (to-faulty fx) (to-faulty fy);
+      only-seats = λ sp. inside (sp .seat);
+      left-by = λ sp fx k low high own. a .removed-by (to-sound sp) (to-faulty fx) k low (omega arith) own;
+      stays-till = λ sp fx. a .kept-till (to-sound sp) (to-faulty fx);
+      gone-by = λ {x} fx h. gone x (fx .seat) (a .ended-by (to-faulty fx) (omega arith));
+    }
+      where
+        gone : (x : ℕ) → x < r .n → (hasSeat (seatOf r x .set) x ≡ false) ⊎ ((q : ℕ) → q < r .n → hasSeat (seatOf r x .set) q ≡ eqb q x)
+            → (out x (seatOf r x) ≡ true) ⊎ (seatOf r x .set ≡ 2 ^ x)
+        gone x h (inl e) = inl (ap not e)
+        gone x h (inr e) =
+            inr
+            (same-sets (r .n) (seatOf r x .set) (2 ^ x) (inside h) (alone-below x (r .n) h)
+            (λ q l. e q l ∙ sym (alone-has x q)))

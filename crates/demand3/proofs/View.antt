@@ -1,0 +1,220 @@
+-- The engine's ring read as a state of the model, and the engine's step as the model's. Assumes nothing.
+use mathlib.Core.Bool.{Bool, true, false, cond, not, _&&_, and-true, and-false, and-comm, Bool·not-not}
+use mathlib.Core.Logic.{⊎-elim}
+use mathlib.Core.Path.{_≡_, refl, sym, ap, _∙_, subst}
+use Prim.Native.Nat.{ℕ, zero, suc, _≤_}
+use native.Mathlib.Numerals.{add-one}
+use native.Mathlib.Omega.{arith}
+use lib.Dec.{eqb, ltb}
+use borrow.Author.Tests.{eq-eqb, ne-eqb, ltb-true, ltb-false}
+use Rattle.lists.proofs.Tests.{both}
+use Rattle.seats.specs.Sets.{hasSeat, withoutSeat}
+use Rattle.seats.proofs.Sets.{nobody-in, without-same, without-other}
+use Rattle.ring.specs.Ring.{seatOf}
+use Rattle.ring.specs.Table.{decided, goneBy, withoutAll}
+use Rattle.ring.specs.Step.{slotOf, viewOf, misses, faultAfter, ownerTurn, otherTurn, turnOf, ringAfter}
+use Rattle.ring.specs.declared.Ring.{Ring}
+use Rattle.ring.specs.declared.slot.Seat.{Seat}
+use Rattle.ring.specs.declared.slot.Slot.{Slot}
+use Rattle.ring.specs.declared.table.View.{View}
+use Rattle.ring.specs.declared.table.View.the-variants.{Silent, Missed, Heard}
+use Rattle.ring.specs.declared.table.Removal.{Removal}
+use Rattle.ring.specs.declared.table.Removal.the-variants.{Nobody, Itself, Owner, Both}
+use Rattle.steps.proofs.Turn.{turn-elim}
+use Rattle.steps.proofs.After.{seat-after, seat-beyond}
+use Rattle.demand3.specs.Model.{State, Given, selfGone, ownerGone, newAck, first, owns, acts, rests, role}
+use Rattle.demand3.specs.Model.{speaks, leaves, drops, learns, hold, left, step}
+use Rattle.demand3.proofs.Seat.{same?, role-own, role-act, role-out, role-blind, Still, still}
+
+abbrev pub stateOf : Ring → State
+stateOf r = record {
+  n = r .n;
+  time = r .time;
+  set = λ p q. hasSeat (seatOf r p .set) q;
+  ack = λ p. seatOf r p .ack;
+  doubt = λ p. seatOf r p .doubt;
+  fault = λ p. seatOf r p .fault;
+}
+
+-- a step of it with its marks
+abbrev pub givenOf : Ring → Bool → ℕ → Given
+givenOf r send receive = record { now = stateOf r; send = send; receive = hasSeat receive }
+
+-- ---- the set after a removal
+
+-- does a removal take the seat itself, and does it take the owner
+abbrev itself : Removal → Bool
+itself Nobody = false
+itself (Itself c) = true
+itself (Owner c) = false
+itself (Both c d) = true
+
+abbrev owners : Removal → Bool
+owners Nobody = false
+owners (Itself c) = false
+owners (Owner c) = true
+owners (Both c d) = true
+
+without-has : (set j q : ℕ) → hasSeat (withoutSeat set j) q ≡ (hasSeat set q && not (eqb q j))
+without-has set j q =
+    ⊎-elim
+    (λ e. ap (hasSeat (withoutSeat set j)) e ∙ without-same set j ∙ sym (rw (eq-eqb q j e) (and-false (hasSeat set q))))
+    (λ n. without-other set j q n ∙ sym (rw (ne-eqb q j n) (and-true (hasSeat set q))))
+    (same? q j)
+
+gone-has : (set p b q : ℕ) (k : Removal)
+    → hasSeat (withoutAll set (goneBy p b k)) q ≡ (hasSeat set q && not (itself k && eqb q p) && not (owners k && eqb q b))
+gone-has set p b q Nobody = rw (and-true (hasSeat set q), and-true (hasSeat set q))
+gone-has set p b q (Itself c) = without-has set p q ∙ sym (and-true _)
+gone-has set p b q (Owner c) = without-has set b q ∙ sym (ap (λ (x : Bool). x && not (eqb q b)) (and-true (hasSeat set q)))
+gone-has set p b q (Both c d) = without-has (withoutSeat set p) b q ∙ ap (λ (x : Bool). x && not (eqb q b)) (without-has set p q)
+
+-- ---- the table
+
+-- what a seat sees, by whether the owner speaks, whether the seat has a receive mark, and the bit
+abbrev seen : Bool → Bool → Bool → View
+seen speaks marked bit = cond speaks (cond marked Missed (Heard bit)) Silent
+
+abbrev says : Removal → Bool → Bool × Bool × Bool
+says k ack = (itself k, owners k, ack)
+
+-- the engine's table is the model's
+rows : (speaks marked bit ack doubt : Bool)
+    → says (decided (seen speaks marked bit) ack doubt .removal) (decided (seen speaks marked bit) ack doubt .ack)
+    ≡ (selfGone (speaks && not marked) bit ack doubt, ownerGone (speaks && not marked) bit ack doubt, newAck (speaks && not marked) bit ack)
+rows true true bit true doubt = refl
+rows true true bit false doubt = refl
+rows true false true true doubt = refl
+rows true false true false doubt = refl
+rows true false false true true = refl
+rows true false false true false = refl
+rows true false false false doubt = refl
+rows false marked bit true doubt = refl
+rows false marked bit false doubt = refl
+
+-- ---- first faults
+
+first-is : (held : Bool) (time fault : ℕ) → faultAfter held time fault ≡ first held time fault
+first-is true time zero = add-one time
+first-is false time zero = refl
+first-is true time (suc f) = rw (ne-eqb (suc f) 0 (omega arith))
+first-is false time (suc f) = refl
+
+first-none : (time fault : ℕ) → first false time fault ≡ fault
+first-none time zero = refl
+first-none time (suc f) = refl
+
+-- ---- one seat
+
+-- the seat s is seat p of the model after the step
+record Matches (t : Given) (p : ℕ) (s : Seat) : Type 0 where
+  set : (q : ℕ) → hasSeat (s .set) q ≡ step t .set p q
+  ack : s .ack ≡ step t .ack p
+  doubt : s .doubt ≡ step t .doubt p
+  fault : s .fault ≡ step t .fault p
+
+module _ (r : Ring) (send : Bool) (receive : ℕ) where
+  abbrev slot : Slot
+  slot = slotOf r send receive
+
+  abbrev t : Given
+  t = givenOf r send receive
+
+  speaks-is : slot .speaks ≡ speaks t
+  speaks-is = ap (λ (x : Bool). x && not send) (Bool·not-not (hasSeat (seatOf r (slot .owner) .set) (slot .owner)))
+
+  module _ (p : ℕ) where
+    abbrev s : Seat
+    s = seatOf r p
+
+    stays : role t p ≡ rests → Matches t p s
+    stays e =
+        let z : Still t p = still t p e in
+        record {
+          set = λ q. sym (z .set q);
+          ack = sym (z .ack);
+          doubt = sym (z .doubt);
+          fault = sym (ap (λ (x : Bool). first x (r .time) (s .fault)) (z .hold) ∙ first-none (r .time) (s .fault));
+        }
+
+    owning : role t p ≡ owns → Matches t p (ownerTurn slot s .seat)
+    owning o =
+        let h : hold t p ≡ send = cc in
+        record {
+          set = λ q. cc;
+          ack = cc;
+          doubt = cc;
+          fault = first-is send (r .time) (s .fault) ∙ ap (λ (x : Bool). first x (r .time) (s .fault)) (sym h);
+        }
+
+    row : says (decided (viewOf slot p) (s .ack) (s .doubt) .removal) (decided (viewOf slot p) (s .ack) (s .doubt) .ack)
+        ≡ (leaves t p, drops t p, learns t p)
+    row =
+        rows (slot .speaks) (hasSeat receive p) (slot .bit) (s .ack) (s .doubt)
+        ∙ ap
+        (λ (x : Bool).
+        let a = x && not (hasSeat receive p) in
+        (selfGone a (slot .bit) (s .ack) (s .doubt), ownerGone a (slot .bit) (s .ack) (s .doubt), newAck a (slot .bit) (s .ack)))
+        speaks-is
+
+    acting : role t p ≡ acts → Matches t p (otherTurn slot p s .seat)
+    acting o =
+        let h : hold t p ≡ (hasSeat receive p && speaks t) = cc in
+        let k : step t .ack p ≡ learns t p = cc in
+        record {
+          set = λ q.
+              let e : step t .set p q ≡ left t p q = cc in
+              gone-has (s .set) p (slot .owner) q (decided (viewOf slot p) (s .ack) (s .doubt) .removal)
+              ∙ ap
+              (λ (x : Bool × Bool × Bool). hasSeat (s .set) q && not (x .0 && eqb q p) && not (x .1 && eqb q (slot .owner)))
+              row
+              ∙ sym e;
+          ack = ap (λ (x : Bool × Bool × Bool). x .2) row ∙ sym k;
+          doubt = cc;
+          fault = first-is (misses slot p) (r .time) (s .fault)
+              ∙ ap (λ (x : Bool). first x (r .time) (s .fault))
+              (ap (λ (x : Bool). x && hasSeat receive p) speaks-is ∙ and-comm (speaks t) (hasSeat receive p) ∙ sym h);
+        }
+
+    matches : Matches t p (turnOf slot p s .seat)
+    matches =
+        turn-elim slot p s (λ u. Matches t p (u .seat))
+        (λ h. stays (role-out t p h))
+        (λ h e. owning (role-own t p e h))
+        (λ h n g. acting (role-act t p n h g))
+        (λ h n g. stays (role-blind t p n g))
+
+-- ---- the ring
+
+-- no seat n or above is in anybody's way: its set is empty
+abbrev pub EmptyBeyond : Ring → Type 0
+EmptyBeyond r = (p : ℕ) → r .n ≤ p → seatOf r p .set ≡ 0
+
+module _ (r : Ring) (send : Bool) (receive : ℕ) (empty : EmptyBeyond r) where
+  abbrev later : Ring
+  later = ringAfter r (slotOf r send receive)
+
+  pub empty-after : EmptyBeyond later
+  empty-after p h = ap (λ (s : Seat). s .set) (seat-beyond r (slotOf r send receive) p h) ∙ empty p h
+
+  matches-after : (p : ℕ) → Matches (givenOf r send receive) p (seatOf later p)
+  matches-after p =
+      ⊎-elim
+      (λ e.
+      subst (Matches (givenOf r send receive) p) (sym (seat-after r (slotOf r send receive) p (ltb-true p (r .n) e)))
+      (matches r send receive p))
+      (λ e.
+      let h = ltb-false p (r .n) e in
+      let o = role-out (givenOf r send receive) p (ap (λ (x : ℕ). hasSeat x p) (empty p h) ∙ nobody-in p) in
+      subst (Matches (givenOf r send receive) p) (sym (seat-beyond r (slotOf r send receive) p h)) (stays r send receive p o))
+      (both (ltb p (r .n)))
+
+  pub state-after : stateOf later ≡ step (givenOf r send receive)
+  state-after = λ i. record {
+    n = r .n;
+    time = add-one (r .time) i;
+    set = λ p q. matches-after p .set q i;
+    ack = λ p. matches-after p .ack i;
+    doubt = λ p. matches-after p .doubt i;
+    fault = λ p. matches-after p .fault i;
+  }

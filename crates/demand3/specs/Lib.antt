@@ -1,0 +1,8 @@
+pub mod Faults
+pub mod Demand
+pub mod Verdict
+pub mod Runs
+pub mod Example
+pub mod Tight
+pub mod Late
+pub mod Model

@@ -1,0 +1,205 @@
+// The engine's runs of document 01 that are run and compared: the room for records, and every kind of refusal of a step, a fresh ring and a verdict.
+use libc::STDOUT_FILENO;
+use ring::Answer;
+use ring::Judged;
+use ring::Ring;
+use ring::Stepped;
+use ring::Verdict;
+
+fn say(text: &[u8]) {
+    io::write_all(STDOUT_FILENO, text);
+}
+
+fn say_number(n: usize) {
+    say(b" ");
+    io::print_decimal(STDOUT_FILENO, n as u64);
+}
+
+fn say_byte(b: u8) {
+    say_number(b as usize);
+}
+
+// Every byte of a trail.
+fn say_bytes(trail: &[u8]) {
+    let mut i: usize = 0;
+    while i < trail.len() {
+        say_byte(trail[i]);
+        i += 1;
+    }
+}
+
+fn say_trail(trail: &[u8]) {
+    say(b"trail");
+    say_bytes(trail);
+    say(b"\n");
+}
+
+// What a step or a fresh ring was answered, and the ring's size, time and records after it.
+fn report(name: &[u8], s: Stepped) {
+    let answer = s.answer;
+    say(name);
+    match answer {
+        Answer::Taken => {
+            say(b": taken");
+        }
+        Answer::Refused(why, place) => {
+            say(b": refused");
+            say_number(why.number() as usize);
+            say_number(place as usize);
+        }
+    }
+    say(b"; n, time and records");
+    say_number(s.ring.n);
+    say_number(s.ring.time as usize);
+    say_number(s.ring.records as usize);
+    say(b"\n");
+}
+
+fn report_verdict(name: &[u8], j: Judged) {
+    let verdict = j.verdict;
+    say(name);
+    match verdict {
+        Verdict::Within => {
+            say(b": within");
+        }
+        Verdict::Outside(t) => {
+            say(b": outside");
+            say_number(t as usize);
+        }
+        Verdict::Refused(why, place) => {
+            say(b": refused");
+            say_number(why.number() as usize);
+            say_number(place as usize);
+        }
+    }
+    say(b"\n");
+}
+
+fn fresh(n: usize) -> Ring {
+    Ring::zero().fresh(n).ring
+}
+
+// One step without marks, with room for every record.
+fn quiet(ring: Ring) -> Stepped {
+    let mut trail = [0u8; 5120];
+    ring.step(false, 0, &mut trail)
+}
+
+// The step of a fresh ring of 4 in which the owner cannot send makes 3 records: with room for 3, and for 2.
+fn rooms() {
+    let mut three = [7u8; 15];
+    report(
+        b"three records, room for 3",
+        fresh(4).step(true, 0, &mut three),
+    );
+    say_trail(&three);
+    let mut two = [7u8; 14];
+    report(
+        b"three records, room for 2",
+        fresh(4).step(true, 0, &mut two),
+    );
+    say_trail(&two);
+    let mut none = [0u8; 0];
+    report(b"no record, no buffer", fresh(4).step(false, 0, &mut none));
+    report(
+        b"three records, no buffer",
+        fresh(4).step(true, 0, &mut none),
+    );
+}
+
+// Seats that no ring of 4 has, in a set or with something of their own.
+fn strangers() {
+    let mut r = fresh(4);
+    r.sets[1] = 16;
+    report(b"seat 4 in a set of a ring of 4", quiet(r));
+    r = fresh(4);
+    r.sets[4] = 1;
+    report(b"seat 4 has a member", quiet(r));
+    r = fresh(4);
+    r.acks[31] = true;
+    report(b"seat 31 has an acknowledgement", quiet(r));
+    r = fresh(4);
+    r.doubts[5] = true;
+    report(b"seat 5 has a doubt", quiet(r));
+    r = fresh(4);
+    r.faults[6] = 1;
+    report(b"seat 6 has a first fault", quiet(r));
+}
+
+// Sizes, times and counts at their limits and past them.
+fn limits_of_a_ring() {
+    let mut r = fresh(4);
+    r.n = 1;
+    report(b"a ring of 1", quiet(r));
+    r.n = 33;
+    report(b"a ring of 33", quiet(r));
+    report(b"a ring of 32", quiet(fresh(32)));
+    r = fresh(4);
+    r.time = 4097;
+    report(b"time 4,097", quiet(r));
+    r.time = 7;
+    r.faults[2] = 8;
+    report(b"a first fault at the time", quiet(r));
+    r.faults[2] = 7;
+    report(b"a first fault just before the time", quiet(r));
+    r = fresh(4);
+    r.records = 1025;
+    report(b"more records than the room", quiet(r));
+    r.records = 1024;
+    report(b"as many records as the room", quiet(r));
+}
+
+// Marks that no step has, and the last time; and which refusal comes first.
+fn marks_and_ends() {
+    let mut trail = [0u8; 5120];
+    let mut r = fresh(4);
+    report(
+        b"a receive mark for the owner",
+        r.step(false, 1, &mut trail),
+    );
+    report(
+        b"a receive mark for seat 4 of 4",
+        r.step(false, 16, &mut trail),
+    );
+    r.time = 4095;
+    report(b"time 4,095", r.step(false, 0, &mut trail));
+    r.time = 4096;
+    report(b"time 4,096", r.step(false, 0, &mut trail));
+    report(b"time 4,096 and a wrong mark", r.step(false, 1, &mut trail));
+    r.records = 1024;
+    report(b"time 4,096 and a full trail", r.step(true, 0, &mut trail));
+    r.n = 33;
+    report(b"not a ring and a wrong mark", r.step(false, 1, &mut trail));
+}
+
+fn starts_and_verdicts() {
+    let zero = Ring::zero();
+    report(b"a fresh ring of 1", zero.fresh(1));
+    report(b"a fresh ring of 2", zero.fresh(2));
+    report(b"a fresh ring of 32", zero.fresh(32));
+    report(b"a fresh ring of 33", zero.fresh(33));
+    report(b"a step of the zero ring", quiet(zero));
+    report_verdict(b"verdict on the zero ring", zero.verdict());
+    report_verdict(b"verdict on a fresh ring", fresh(2).verdict());
+    let mut r = fresh(4);
+    r.time = 9;
+    r.faults[1] = 2;
+    r.faults[2] = 7;
+    report_verdict(b"first faults at 1 and 6 of a ring of 4", r.verdict());
+    r.faults[2] = 6;
+    report_verdict(b"first faults at 1 and 5 of a ring of 4", r.verdict());
+    r = fresh(2);
+    r.time = 9;
+    r.faults[0] = 3;
+    report_verdict(b"one sound seat of a ring of 2", r.verdict());
+    r.records = 1025;
+    report_verdict(b"verdict with 1,025 records", r.verdict());
+}
+
+fn main() {
+    rooms();
+    strangers();
+    limits_of_a_ring();
+    marks_and_ends();
+    starts_and_verdicts();
+}

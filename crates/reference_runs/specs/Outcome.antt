@@ -1,0 +1,54 @@
+-- What a run is given, and what comes of it by the engine's and the reader's own definitions.
+use mathlib.Core.Bool.{Bool, true, false, cond}
+use mathlib.Core.List.{List, [], _∷_, map}
+use Prim.Native.Nat.{ℕ, _*_, _^_}
+use lib.ListN.{take, replicate}
+use Rattle.limits.specs.Refusals.{Told}
+use Rattle.lists.specs.Counted.{tab, joined}
+use Rattle.seats.specs.Sets.{hasSeat}
+use Rattle.ring.specs.Ring.{seatOf, out}
+use Rattle.ring.specs.Trail.{width}
+use Rattle.ring.specs.Refusals.{Finding, verdictFound}
+use Rattle.ring.specs.declared.Ring.{Ring}
+use Rattle.sheet.specs.Sheets.{sheetIn, toldOf}
+use Rattle.steps.specs.Run.{Marks, Bench, freshBench, runOn}
+
+-- the steps of the runs: no mark, a send mark for the owner, a receive mark for one seat
+abbrev pub quiet : Marks
+quiet = record { send = false; receive = 0 }
+
+abbrev pub sendFault : Marks
+sendFault = record { send = true; receive = 0 }
+
+abbrev pub missedBy : ℕ → Marks
+missedBy p = record { send = false; receive = 2 ^ p }
+
+-- a ring of n seats with the marks of its steps, or a sheet's bytes
+pub data Given : Type 0 where
+  stepped : (n : ℕ) → List Marks → Given
+  read : List ℕ → Given
+
+-- the seats in a seat's set, its acknowledgement, and whether it is out
+pub record Held : Type 0 where
+  pub set : List ℕ
+  pub ack : Bool
+  pub isOut : Bool
+
+-- what each seat holds, the records of the trail and the verdict; or what the reader says
+pub data Outcome : Type 0 where
+  came : List Held → List ℕ → Finding → Outcome
+  told : Told → Outcome
+
+abbrev members : ℕ → ℕ → List ℕ
+members n set = joined n (λ q. cond (hasSeat set q) (q ∷ []) [])
+
+unfoldable pub heldBy : Ring → ℕ → Held
+heldBy r p = record { set = members (r .n) (seatOf r p .set); ack = seatOf r p .ack; isOut = out p (seatOf r p) }
+
+unfoldable pub outcomeOn : Bench → Outcome
+outcomeOn b = came (tab (b .ring .n) (heldBy (b .ring))) (take (width * b .ring .records) (b .trail)) (verdictFound (b .ring))
+
+-- the trail has room for 20 records, which is more than any of these runs writes
+unfoldable pub outcome : Given → Outcome
+outcome (stepped n marks) = outcomeOn (runOn marks (freshBench n (replicate (width * 20) 0)))
+outcome (read bytes) = told (toldOf (sheetIn bytes))

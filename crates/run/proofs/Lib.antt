@@ -1,0 +1,9 @@
+pub mod Any
+pub mod Joined
+pub mod Gathering
+pub mod Running
+pub mod Reading
+pub mod Story
+pub mod Fits
+pub mod Unique
+pub mod Examples

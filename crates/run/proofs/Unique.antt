@@ -1,0 +1,55 @@
+-- No two values and trails keep the promise of `run`. Assumes nothing.
+use mathlib.Core.Path.{_≡_, refl, sym, ap, ap₂, _∙_}
+use mathlib.Core.List.{List}
+use Prim.Native.Nat.{ℕ}
+use native.Mathlib.Omega.{arith}
+use Rattle.limits.proofs.Refusals.{one-reason}
+use Rattle.limits.specs.Refusals.{numberOf}
+use Rattle.ring.specs.Refusals.{found}
+use Rattle.ring.specs.declared.Ring.{Ring}
+use Rattle.ring.specs.declared.Judged.{Judged}
+use Rattle.ring.specs.declared.Verdict.{Verdict}
+use Rattle.ring.proofs.Unique.{one-judged}
+use Rattle.run.specs.Outcome.{heard, ran, refused, said, Result}
+use Rattle.run.specs.Run.{runOf, RunPromise}
+use Rattle.run.specs.declared.Bus.{Bus}
+use Rattle.run.specs.declared.Bus.the-variants.{Agrees, Differs}
+use Rattle.run.specs.declared.Answer.{Answer}
+use Rattle.run.specs.declared.Answer.the-variants.{Ran, Refused}
+use Rattle.run.specs.declared.Ran as value
+use Rattle.run.proofs.Fits.{run-verdict}
+
+one-bus : (a b : Bus) → heard a ≡ heard b → a ≡ b
+one-bus Agrees Agrees e = refl
+one-bus Agrees (Differs u) e = let z : _≡_ {A = ℕ} 0 1 = cc in absurd (omega arith)
+one-bus (Differs t) Agrees e = let z : _≡_ {A = ℕ} 0 1 = cc in absurd (omega arith)
+one-bus (Differs t) (Differs u) e = ap Differs (cc)
+
+module _ (bytes t : List ℕ) where
+  -- a verdict that is said is the one on the run's ring, of which there is one
+  one-verdict : (bus bus′ : Bus) (v w : Verdict) → ran (heard bus) (found v) ≡ runOf bytes t .outcome → ran (heard bus′) (found w) ≡ runOf bytes t .outcome → v ≡ w
+  one-verdict bus bus′ v w p q =
+      let r = runOf bytes t .ring in
+      let a = run-verdict bytes t (heard bus) (found v) (sym p) in
+      let b = run-verdict bytes t (heard bus′) (found w) (sym q) in
+      ap (λ (j : Judged). j .verdict)
+      (one-judged r (record { verdict = v; ring = r }) (record { verdict = w; ring = r }) (record { verdict = a; ring = refl }) (record { verdict = b; ring = refl }))
+
+  one-answer : (a b : Answer) → said a ≡ runOf bytes t .outcome → said b ≡ runOf bytes t .outcome → a ≡ b
+  one-answer (Ran bus v) (Ran bus′ w) p q =
+      let e : heard bus ≡ heard bus′ = let h : ran (heard bus) (found v) ≡ ran (heard bus′) (found w) = p ∙ sym q in cc in
+      ap₂ Ran (one-bus bus bus′ e) (one-verdict bus bus′ v w p q)
+  one-answer (Ran bus v) (Refused y k) p q = let z : _≡_ {A = ℕ} 0 1 = cc in absurd (omega arith)
+  one-answer (Refused x j) (Ran bus w) p q = let z : _≡_ {A = ℕ} 0 1 = cc in absurd (omega arith)
+  one-answer (Refused x j) (Refused y k) p q =
+      let h : refused (numberOf x) j ≡ refused (numberOf y) k = p ∙ sym q in
+      let n : numberOf x ≡ numberOf y = cc in
+      let m : j ≡ k = cc in
+      ap₂ Refused (one-reason x y n) m
+
+  pub one-run : (x y : value.Ran) (t′ t″ : List ℕ) → RunPromise bytes t x t′ → RunPromise bytes t y t″ → (x ≡ y) × (t′ ≡ t″)
+  one-run x y t′ t″ p q =
+      let a = one-answer (x .answer) (y .answer) (p .answer) (q .answer) in
+      let r = p .ring ∙ sym (q .ring) in
+      let m = p .modules ∙ sym (q .modules) in
+      (λ i. record { answer = a i; ring = r i; modules = m i }, p .trail ∙ sym (q .trail))

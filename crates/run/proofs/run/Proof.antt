@@ -1,0 +1,54 @@
+-- `run`: the reader's answer decides. Assumes nothing.
+use borrow.Author.Needs.{needs}
+use Rattle.run.proofs.Reading.{sheet-good, keeps-read, keeps-refused}
+use Rattle.run.proofs.run.Statement.{statement}
+use Rattle.run.proofs.run.Tie as tie
+
+read-requires : tie.Need-read-requires
+read-requires c κs = search needs
+
+enum-told : tie.Need-enum-told
+enum-told c = search needs
+
+through-requires : tie.Need-through-requires
+through-requires c κs =
+    let read = c .before .before .before .before .read in
+    sheet-good _ (read .result) (read .ensures) (c .before .enum-told .given .1)
+
+enum-known-answer : tie.Need-enum-known-answer
+enum-known-answer c = search needs
+
+zero-requires : tie.Need-zero-requires
+zero-requires c κs = search needs
+
+refused-requires : tie.Need-refused-requires
+refused-requires c κs = search needs
+
+same-length : tie.Need-same-length
+same-length c = search needs
+
+returns : tie.Need-returns
+returns c =
+    let read = c .before .before .before .before .before .before .before .read in
+    let through = c .before .before .through in
+    keeps-read _ (read .result) (read .ensures) _ (through .result) _ (c .before .before .before .before .enum-told .given .1) (through .ensures)
+
+returns-2 : tie.Need-returns-2
+returns-2 c =
+    let read = c .before .before .before .before .before .before .before .read in
+    let known = c .before .before .before .before .answer .given in
+    keeps-refused _ (read .result) (read .ensures) _ _ _ _ (c .refused .result) (known .1) (c .before .zero .ensures .ring) (c .refused .ensures)
+
+pub run-spec : {M : Type 1} → statement M
+run-spec =
+    tie.close
+    (tie.spec
+    read-requires
+    enum-told
+    through-requires
+    enum-known-answer
+    zero-requires
+    refused-requires
+    same-length
+    returns
+    returns-2)
