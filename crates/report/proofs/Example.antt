@@ -1,41 +1,30 @@
--- The example of document 01 printed whole, by computation, from what its run leaves. Assumes nothing.
+-- The example of document 01 printed whole from its sheet, by computation; and the lines that it does not have. Assumes nothing.
 use mathlib.Core.Path.{_≡_, refl}
-use mathlib.Core.Bool.{true, false}
 use mathlib.Core.List.{List, [], _∷_, _++_}
 use Prim.Native.Nat.{ℕ}
-use lib.ListN.{replicate}
 use lib.Count.{onesIn}
-use Rattle.ring.specs.Refusals.{within}
-use Rattle.ring.specs.declared.Ring.{Ring}
-use Rattle.run.specs.Outcome.{agrees, ran, Result}
+use Rattle.ring.specs.Ring.{freshRing, zeroRing, isRing, everySeatStands}
+use Rattle.ring.specs.Step.{turnOf}
+use Rattle.ring.specs.Terms.{termsHold, firstFailing}
+use Rattle.ring.specs.Refusals.{stepTold, verdictFound}
+use Rattle.ring.specs.Promise.{ringOf, trailOf}
+use Rattle.sheet.specs.Bytes.{byteAt, digitsAt, numberAt}
+use Rattle.sheet.specs.Lines.{endAt, ended, lineAt, linesAt, sectionAt, isNew, moduleLine, slotLine}
+use Rattle.sheet.specs.Marks.{markOffence, spacedAt, fieldsAt, markLine}
+use Rattle.sheet.specs.Sheets.{noModules, noMarks, noSlots, sheetIn}
+use Rattle.run.specs.Marks.{marksAt}
+use Rattle.run.specs.Outcome.{differs}
+use Rattle.run.specs.Run.{runFrom, runOf}
 use Rattle.report.specs.Decimal.{digitsIn, decimal}
-use Rattle.report.specs.Page.{recordLine, seatLine, pageOf}
+use Rattle.report.specs.Page.{recordLine, seatLine, busLine, outsideLine, refusedLine, verdict, pageOf}
+use Rattle.report.specs.Promise.{noTrail, textOf}
 
--- seats 0, 1 and 3 hold {0, 1, 3}; seat 2 holds {1, 3} and is out; its first fault was at time 0
-unfoldable pub exampleRing : Ring
-exampleRing = record {
-  sets = 11 ∷ 11 ∷ 10 ∷ 11 ∷ replicate 28 0;
-  acks = true ∷ true ∷ true ∷ true ∷ replicate 28 false;
-  doubts = false ∷ false ∷ false ∷ true ∷ replicate 28 false;
-  faults = 0 ∷ 0 ∷ 1 ∷ 0 ∷ replicate 28 0;
-  n = 4;
-  time = 4;
-  records = 5;
-}
-
-unfoldable pub exampleResult : Result
-exampleResult = record {
-  outcome = ran agrees within;
-  ring = exampleRing;
-  modules = 11 ∷ 12 ∷ 13 ∷ 14 ∷ replicate 28 0;
-  trail =
-      (0 ∷ 0 ∷ 2 ∷ 0 ∷ 99 ∷ [])
-      ++ (1 ∷ 0 ∷ 2 ∷ 2 ∷ 98 ∷ [])
-      ++ (2 ∷ 0 ∷ 0 ∷ 2 ∷ 99 ∷ [])
-      ++ (2 ∷ 0 ∷ 1 ∷ 2 ∷ 99 ∷ [])
-      ++ (2 ∷ 0 ∷ 3 ∷ 2 ∷ 99 ∷ [])
-      ++ replicate 5095 0;
-}
+-- ring, marks and slots, line by line
+unfoldable pub exampleSheet : List ℕ
+exampleSheet =
+    (52 ∷ 10 ∷ 49 ∷ 49 ∷ 10 ∷ 49 ∷ 50 ∷ 10 ∷ 49 ∷ 51 ∷ 10 ∷ 49 ∷ 52 ∷ 10 ∷ [])
+    ++ (49 ∷ 10 ∷ 48 ∷ 32 ∷ 50 ∷ 32 ∷ 82 ∷ 10 ∷ [])
+    ++ (52 ∷ 10 ∷ 49 ∷ 10 ∷ 49 ∷ 10 ∷ 45 ∷ 10 ∷ 48 ∷ 10 ∷ [])
 
 -- line by line as document 01 prints it
 unfoldable pub examplePage : List ℕ
@@ -55,6 +44,20 @@ examplePage =
     ++ (98 ∷ 117 ∷ 115 ∷ 32 ∷ 97 ∷ 103 ∷ 114 ∷ 101 ∷ 101 ∷ 115 ∷ 10 ∷ [])
     ++ (102 ∷ 97 ∷ 117 ∷ 108 ∷ 116 ∷ 115 ∷ 32 ∷ 119 ∷ 105 ∷ 116 ∷ 104 ∷ 105 ∷ 110 ∷ 10 ∷ [])
 
-pub example-printed : pageOf exampleResult ≡ examplePage
-unfolding pageOf exampleResult exampleRing examplePage recordLine seatLine decimal digitsIn onesIn
+pub example-printed : textOf exampleSheet ≡ examplePage
+unfolding textOf noTrail pageOf exampleSheet examplePage recordLine seatLine decimal digitsIn onesIn runOf runFrom marksAt sheetIn noModules noMarks noSlots sectionAt linesAt moduleLine markLine slotLine isNew lineAt ended endAt numberAt digitsAt byteAt fieldsAt spacedAt markOffence stepTold ringOf trailOf verdictFound isRing everySeatStands freshRing zeroRing turnOf termsHold firstFailing
 example-printed = refl
+
+-- 2, `bus differs 307`, `faults outside 4`
+pub differs-printed : verdict (busLine (differs 307)) (outsideLine 4)
+    ≡ (50 ∷ 10 ∷ [])
+    ++ (98 ∷ 117 ∷ 115 ∷ 32 ∷ 100 ∷ 105 ∷ 102 ∷ 102 ∷ 101 ∷ 114 ∷ 115 ∷ 32 ∷ 51 ∷ 48 ∷ 55 ∷ 10 ∷ [])
+    ++ (102 ∷ 97 ∷ 117 ∷ 108 ∷ 116 ∷ 115 ∷ 32 ∷ 111 ∷ 117 ∷ 116 ∷ 115 ∷ 105 ∷ 100 ∷ 101 ∷ 32 ∷ 52 ∷ 10 ∷ [])
+unfolding decimal digitsIn
+differs-printed = refl
+
+-- `refused 10 16384`
+pub refused-printed : refusedLine 10 16384
+    ≡ 114 ∷ 101 ∷ 102 ∷ 117 ∷ 115 ∷ 101 ∷ 100 ∷ 32 ∷ 49 ∷ 48 ∷ 32 ∷ 49 ∷ 54 ∷ 51 ∷ 56 ∷ 52 ∷ 10 ∷ []
+unfolding decimal digitsIn
+refused-printed = refl

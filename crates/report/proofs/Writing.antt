@@ -13,7 +13,7 @@ use Rattle.lists.specs.Put.{put}
 use Rattle.lists.proofs.Counted.{joined-more}
 use Rattle.lists.proofs.Put.{put-nil, put-put, length-put}
 use Rattle.report.specs.Decimal.{decimal}
-use Rattle.report.specs.Inside.{Written, Writes}
+use Rattle.report.specs.Inside.{countMost, Written, Writes}
 use Rattle.report.specs.Page.{lineOf, section}
 use Rattle.report.specs.declared.text.Place.{Place}
 
@@ -96,6 +96,6 @@ module _ (line : ℕ → List ℕ) (most : ℕ) where
       → Writes (joined (k + 1) line) (most * (k + 1)) p x r z
   lines-more {k = k} f g = looser (omega (arith, mul-add most k 1)) (same (sym (joined-more line k)) (then f g))
 
-  pub lines-end : {n k : ℕ} {p q r : Place} {x y z : List ℕ} → k ≡ n → Writes (lineOf (decimal n ∷ [])) 6 p x q y → Writes (joined k line) (most * k) q y r z
-      → Writes (section n line) (6 + most * n) p x r z
+  pub lines-end : {n k : ℕ} {p q r : Place} {x y z : List ℕ} → k ≡ n → Writes (lineOf (decimal n ∷ [])) countMost p x q y → Writes (joined k line) (most * k) q y r z
+      → Writes (section n line) (countMost + most * n) p x r z
   lines-end e f g = then f (rw e at g)

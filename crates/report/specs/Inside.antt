@@ -11,6 +11,16 @@ use Rattle.run.specs.Outcome.{Result, said}
 use Rattle.run.specs.declared.Ran.{Ran}
 use Rattle.report.specs.declared.text.Place.{Place}
 
+-- the most bytes in the line of a count, of a record and of a seat: no number in them has more than five digits
+abbrev pub countMost : ℕ
+countMost = 6
+
+abbrev pub recordMost : ℕ
+recordMost = 20
+
+abbrev pub seatMost : ℕ
+seatMost = 22
+
 -- the buffer that came as `start` holds as much of the text as it can
 pub record Written (start text : List ℕ) (place : Place) (page : List ℕ) : Type 0 where
   pub bytes : page ≡ put start 0 (take (length start) text)

@@ -118,11 +118,8 @@ abbrev pub recordsAndSeats : Result → List ℕ
 recordsAndSeats x = section (x .ring .records) (recordLine (x .modules) (x .trail)) ++ section (x .ring .n) (seatLine (x .modules) (x .ring))
 
 -- the two verdict lines after theirs
-abbrev pub verdictBegins : List ℕ → List ℕ
-verdictBegins bus = lineOf (decimal 2 ∷ []) ++ bus
-
 abbrev pub verdict : List ℕ → List ℕ → List ℕ
-verdict bus faults = verdictBegins bus ++ faults
+verdict bus faults = lineOf (decimal 2 ∷ []) ++ bus ++ faults
 
 -- the three sections; a refusal prints its line only
 abbrev pub pageBy : Result → Outcome → List ℕ

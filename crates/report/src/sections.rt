@@ -1,10 +1,13 @@
 // The page's sections, each after its count, and the page made of them.
+ghost use mathlib.Core.List.{[], _∷_, _++_};
 ghost use Prim.Native.Nat.{_+_, _*_, _≤_};
 ghost use lib.ListN.{length};
+ghost use Rattle.limits.specs.Limits.{seatsMost, roomMost};
 ghost use Rattle.ring.specs.Trail.{width};
-ghost use Rattle.report.specs.Page.{recordLine, seatLine, section, busLine, recordsAndSeats, verdictBegins, pageOf};
+ghost use Rattle.report.specs.Decimal.{decimal};
+ghost use Rattle.report.specs.Page.{lineOf, recordLine, seatLine, section, busLine, recordsAndSeats, pageOf};
 ghost use Rattle.report.specs.Promise.{pageMost};
-ghost use Rattle.report.specs.Inside.{Writes, Holds, resultOf};
+ghost use Rattle.report.specs.Inside.{countMost, recordMost, seatMost, Writes, Holds, resultOf};
 ghost use Rattle.run.specs.Outcome.{heard};
 use crate::lines;
 use crate::text::Place;
@@ -23,7 +26,7 @@ fn record_section(
     records: u16,
 ) -> Place
     requires { ⌜ width * records ≤ length (now trail) ⌝ }
-    ensures { λ r. ⌜ Writes (section records (recordLine modules (now (trail .entry)))) (6 + 20 * records) place (now (page .entry)) r (now (page .exit)) ⌝ }
+    ensures { λ r. ⌜ Writes (section records (recordLine modules (now (trail .entry)))) (countMost + recordMost * records) place (now (page .entry)) r (now (page .exit)) ⌝ }
 {
     let count = records as usize;
     let mut next = lines::count_line(page, place, records);
@@ -43,7 +46,7 @@ fn seat_section(
     ring: Ring,
 ) -> Place
     requires { ⌜ ring .n ≤ 32 ⌝ }
-    ensures { λ r. ⌜ Writes (section (ring .n) (seatLine modules ring)) (6 + 22 * ring .n) place (now (page .entry)) r (now (page .exit)) ⌝ }
+    ensures { λ r. ⌜ Writes (section (ring .n) (seatLine modules ring)) (countMost + seatMost * ring .n) place (now (page .entry)) r (now (page .exit)) ⌝ }
 {
     let n = ring.n;
     let mut next = lines::count_line(page, place, n as u16);
@@ -58,7 +61,7 @@ fn seat_section(
 // The first two sections.
 fn records_and_seats(page: &mut [u8], place: Place, ran: Ran, trail: &[u8]) -> Place
     requires { ⌜ Holds (ran .ring) (now trail) ⌝ }
-    ensures { λ r. ⌜ Writes (recordsAndSeats (resultOf ran (now (trail .entry)))) 21196 place (now (page .entry)) r (now (page .exit)) ⌝ }
+    ensures { λ r. ⌜ Writes (recordsAndSeats (resultOf ran (now (trail .entry)))) (countMost + recordMost * roomMost + (countMost + seatMost * seatsMost)) place (now (page .entry)) r (now (page .exit)) ⌝ }
 {
     let modules = ran.modules;
     let ring = ran.ring;
@@ -68,7 +71,7 @@ fn records_and_seats(page: &mut [u8], place: Place, ran: Ran, trail: &[u8]) -> P
 
 // The verdict's count and its first line.
 fn verdict_begins(page: &mut [u8], place: Place, bus: Bus) -> Place
-    ensures { λ r. ⌜ Writes (verdictBegins (busLine (heard bus))) 24 place (now (page .entry)) r (now (page .exit)) ⌝ }
+    ensures { λ r. ⌜ Writes (lineOf (decimal 2 ∷ []) ++ busLine (heard bus)) 24 place (now (page .entry)) r (now (page .exit)) ⌝ }
 {
     let next = lines::count_line(page, place, 2);
     lines::bus_line(page, next, bus)

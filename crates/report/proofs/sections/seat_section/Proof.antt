@@ -6,14 +6,14 @@ use native.Mathlib.Omega.{arith}
 use lib.ListN.{length}
 use Rattle.lists.specs.Counted.{joined}
 use Rattle.report.specs.Page.{seatLine}
-use Rattle.report.specs.Inside.{Writes}
+use Rattle.report.specs.Inside.{seatMost, Writes}
 use Rattle.report.proofs.Writing.{lines-begin, lines-more, lines-end}
 use Rattle.report.proofs.sections.seat_section.Statement.{statement}
 use Rattle.report.proofs.sections.seat_section.Tie as tie
 
 abbrev Inv-loop : tie.InvT-loop
 Inv-loop page₀ modules ring n next₀ p₀ page next p =
-    (p ≤ n) × (length page ≡ length page₀) × Writes (joined p (seatLine modules ring)) (22 * p) next₀ page₀ next page
+    (p ≤ n) × (length page ≡ length page₀) × Writes (joined p (seatLine modules ring)) (seatMost * p) next₀ page₀ next page
 
 abbrev μ-loop : tie.MeasureT-loop
 μ-loop page₀ modules ring n next₀ p₀ page next p = n - p
@@ -25,7 +25,7 @@ count-line-requires : tie.Need-count-line-requires Inv-loop μ-loop
 count-line-requires c κs = search needs
 
 loop-holds : tie.Need-loop-holds Inv-loop μ-loop
-loop-holds c = let a = c .before .before .before .before .before .args in (search needs, refl, lines-begin (seatLine (a .modules) (a .ring)) 22)
+loop-holds c = let a = c .before .before .before .before .before .args in (search needs, refl, lines-begin (seatLine (a .modules) (a .ring)) seatMost)
 
 seat-line-requires : tie.Need-seat-line-requires Inv-loop μ-loop
 seat-line-requires c κs = search needs
@@ -39,7 +39,7 @@ loop-less c = search needs
 loop-again : tie.Need-loop-again Inv-loop μ-loop
 loop-again c = let l = c .before .before .before .before .before in
     let a = l .before .before .before .before .before .before .args in
-    (search needs, search needs, lines-more (seatLine (a .modules) (a .ring)) 22 (l .loop .inv .2) (c .before .before .seat-line .ensures))
+    (search needs, search needs, lines-more (seatLine (a .modules) (a .ring)) seatMost (l .loop .inv .2) (c .before .before .seat-line .ensures))
 
 same-length : tie.Need-same-length Inv-loop μ-loop
 same-length c = search needs
@@ -47,7 +47,7 @@ same-length c = search needs
 returns : tie.Need-returns Inv-loop μ-loop
 returns c = let l = c .before in
     let a = l .before .before .before .before .before .before .args in
-    lines-end (seatLine (a .modules) (a .ring)) 22 (omega arith) (l .before .before .before .count-line .ensures) (l .loop .inv .2)
+    lines-end (seatLine (a .modules) (a .ring)) seatMost (omega arith) (l .before .before .before .count-line .ensures) (l .loop .inv .2)
 
 pub seat-section-spec : {M : Type 1} → statement M
 seat-section-spec =
