@@ -26,9 +26,10 @@ use Rattle.demand2.proofs.Sum as sum
 use Rattle.demand2.proofs.Sum.{SumIsN, sum-always, at-most-square}
 use Rattle.run.specs.Marks.{marksAt}
 use Rattle.run.specs.Outcome.{Outcome, refused, Result}
-use Rattle.run.specs.Run.{runSheet, runOf}
+use Rattle.run.specs.Run.{runSheet}
 use Rattle.run.proofs.Reading.{read-is, run-offence}
 use Rattle.run.proofs.Story.{benchAt, Ending, agreed, differed, stopped, run-story}
+use Rattle.demand2_runs.specs.Room.{NeverEight}
 use Rattle.demand2_runs.proofs.Reader.{reader-numbers}
 
 -- ---- what is said
@@ -48,10 +49,6 @@ pub record RunHolds (sheet : Sheet) (trail : List ℕ) (x : Result) : Type 0 whe
   pub whole : WholeStory (sheet .n) (benchAt sheet trail steps)
   pub total : SumIsN (sheet .n) (benchAt sheet trail steps)
   pub square : x .ring .records ≤ sheet .n * sheet .n
-
--- a trail of 5,120 bytes never lacks room
-abbrev pub NeverEight : Type 0
-NeverEight = (bytes t : List ℕ) → 5120 ≤ length t → (place : ℕ) → runOf bytes t .outcome ≡ refused 8 place → ⊥
 
 -- ---- a step
 
