@@ -71,6 +71,15 @@ promise c =
     subst (λ (x : Given). StepPromise (l .loop .ring) (x .send) (x .receive) (l .loop .trail) (c .step .result) (c .step .last .1 .1 .1 .0))
     (c .before .before .before .before .before .before .before .given-by .ensures) (c .step .ensures)
 
+-- and the trail keeps its length
+kept : (c : tie.After-step Inv-loop μ-loop) → let l = c .before .before .before .before .before .before .before .before .before .before in
+    length (c .step .last .1 .1 .1 .0) ≡ length (start l .args .trail .now)
+kept c =
+    let e = c .before .before in
+    let j = e .before .before .before .before .before .before in
+    let l = j .before .before in
+    going-length (l .loop .inv .0) (start l .pre) (j .before .loop-test .taken) (whole j) (heard e) (promise c) ∙ l .loop .inv .1
+
 zero-requires : tie.Need-zero-requires Inv-loop μ-loop
 zero-requires c κs = search needs
 
@@ -161,12 +170,7 @@ refused-requires : tie.Need-refused-requires Inv-loop μ-loop
 refused-requires c κs = search needs
 
 same-length-2 : tie.Need-same-length-2 Inv-loop μ-loop
-same-length-2 c = let p = c .before .before .before .before .before .before .before in
-    let e = p .before .before in
-    let j = e .before .before .before .before .before .before in
-    let l = j .before .before in
-    let a = start l in
-    going-length (l .loop .inv .0) (a .pre) (j .before .loop-test .taken) (whole j) (heard e) (promise p) ∙ l .loop .inv .1
+same-length-2 c = kept (c .before .before .before .before .before .before .before)
 
 returns-2 : tie.Need-returns-2 Inv-loop μ-loop
 returns-2 c = let p = c .before .before .before .before .before .before .before in
@@ -195,7 +199,7 @@ loop-again-2 c = let p = c .before .before .before .before .before .before in
     let j = e .before .before .before .before .before .before in
     let l = j .before .before in
     let a = start l in
-    (rw (c .slot-over .ensures) (going-on (l .loop .inv .0) (a .pre) (j .before .loop-test .taken) (whole j) (heard e) (promise p) (ap told (c .before .enum-told .given .1))), going-length (l .loop .inv .0) (a .pre) (j .before .loop-test .taken) (whole j) (heard e) (promise p) ∙ l .loop .inv .1)
+    (rw (c .slot-over .ensures) (going-on (l .loop .inv .0) (a .pre) (j .before .loop-test .taken) (whole j) (heard e) (promise p) (ap told (c .before .enum-told .given .1))), kept p)
 
 judged-requires-2 : tie.Need-judged-requires-2 Inv-loop μ-loop
 judged-requires-2 c κs = search needs
