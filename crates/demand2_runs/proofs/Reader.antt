@@ -13,11 +13,10 @@ use Rattle.limits.specs.declared.Refusal.{Refusal}
 use Rattle.limits.specs.declared.Refusal.the-variants.{EndsEarly, WrongByte, OutsideLimits, ModuleTwice, MarkNotAbove, WrongMark, BytesAfter}
 use Rattle.sheet.specs.Found.{Found, found, offence, onFound, andThen}
 use Rattle.sheet.specs.Bytes.{isDigit, isSpace, isLineFeed, isKind, isHeard, byteAt, digitsAt, numberAt}
-use Rattle.sheet.specs.Lines.{endAt, ended, within, lineAt, linesAt, Section, section, sectionAt, isNew, moduleLine, slotLine}
+use Rattle.sheet.specs.Lines.{endAt, ended, within, lineAt, linesAt, section, sectionAt, isNew, moduleLine, slotLine}
 use Rattle.sheet.specs.Marks.{mark, noMark, markWithin, ascends, allowed, markOffence, onOption, spacedAt, fieldsAt, markLine}
 use Rattle.sheet.specs.Sheets.{noModules, noMarks, noSlots, sheetFrom, sheetIn}
 use Rattle.sheet.specs.declared.Mark.{Mark}
-use Rattle.sheet.specs.declared.Sheet.{Sheet}
 
 -- ---- what is said of a reading
 

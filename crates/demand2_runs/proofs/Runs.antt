@@ -1,5 +1,5 @@
 -- Demand 2 of the run of a sheet: at every step taken, and of its whole trail; and no run is refused 8 with a trail of 5,120 bytes. Assumes nothing.
-use mathlib.Core.Path.{_≡_, refl, sym, ap, _∙_, subst}
+use mathlib.Core.Path.{_≡_, refl, sym, ap, _∙_}
 use mathlib.Core.Bool.{true}
 use mathlib.Core.List.{List}
 use mathlib.Core.Logic.{⊎-elim}
@@ -14,7 +14,7 @@ use Rattle.ring.specs.Ring.{seatOf}
 use Rattle.ring.specs.Step as step
 use Rattle.ring.specs.declared.Ring.{Ring}
 use Rattle.ring.specs.declared.Answer.the-variants.{Taken}
-use Rattle.steps.specs.Run.{Marks, Bench, toldOn, stepOn, freshBench, Reached, runOn}
+use Rattle.steps.specs.Run.{Marks, Bench, toldOn, stepOn, Reached}
 use Rattle.sheet.specs.Good.{GoodSheet}
 use Rattle.sheet.specs.declared.Sheet.{Sheet}
 use Rattle.demand2.specs.Paper.{membership, updated, history, sentFalse}
@@ -25,10 +25,11 @@ use Rattle.demand2.proofs.Whole.{whole-story}
 use Rattle.demand2.proofs.Sum as sum
 use Rattle.demand2.proofs.Sum.{SumIsN, sum-always, at-most-square}
 use Rattle.run.specs.Marks.{marksAt}
-use Rattle.run.specs.Outcome.{Outcome, ran, refused, Result}
-use Rattle.run.specs.Run.{runSheet, runOf}
+use Rattle.run.specs.Outcome.{Outcome, refused, Result}
+use Rattle.run.specs.Run.{runSheet}
 use Rattle.run.proofs.Reading.{read-is, run-offence}
-use Rattle.run.proofs.Story.{benchAt, Ending, agreed, differed, stopped, Story, run-story, story-reached}
+use Rattle.run.proofs.Story.{benchAt, Ending, agreed, differed, stopped, run-story}
+use Rattle.demand2_runs.specs.Room.{NeverEight}
 use Rattle.demand2_runs.proofs.Reader.{reader-numbers}
 
 -- ---- what is said
@@ -48,10 +49,6 @@ pub record RunHolds (sheet : Sheet) (trail : List ℕ) (x : Result) : Type 0 whe
   pub whole : WholeStory (sheet .n) (benchAt sheet trail steps)
   pub total : SumIsN (sheet .n) (benchAt sheet trail steps)
   pub square : x .ring .records ≤ sheet .n * sheet .n
-
--- a trail of 5,120 bytes never lacks room
-abbrev pub NeverEight : Type 0
-NeverEight = (bytes t : List ℕ) → 5120 ≤ length t → (place : ℕ) → runOf bytes t .outcome ≡ refused 8 place → ⊥
 
 -- ---- a step
 

@@ -3,7 +3,7 @@ use mathlib.Core.Path.{_≡_, refl, sym, ap, _∙_, subst}
 use mathlib.Core.Bool.{Bool, true, false, cond}
 use mathlib.Core.List.{List}
 use mathlib.Core.Logic.{⊎-elim}
-use Prim.Native.Nat.{ℕ, _*_, _≤_, _<_}
+use Prim.Native.Nat.{ℕ, _*_, _≤_}
 use native.Mathlib.Omega.{arith}
 use lib.Dec.{ltb}
 use lib.ListN.{length}
@@ -18,12 +18,12 @@ use Rattle.steps.proofs.Valid.{Valid, valid-ring}
 use Rattle.steps.proofs.After.{room-bytes}
 use Rattle.steps.proofs.Reached.{Stands, reached-stands}
 use Rattle.sheet.specs.Good.{GoodSheet}
-use Rattle.sheet.specs.Sheets.{noSheet, sheetIn}
+use Rattle.sheet.specs.Sheets.{noSheet}
 use Rattle.sheet.specs.declared.Sheet.{Sheet}
 use Rattle.run.specs.Outcome.{Heard, Outcome, ran, refused, Result}
 use Rattle.run.specs.Run.{runSheet, runOf}
 use Rattle.run.proofs.Reading.{read-is, run-offence}
-use Rattle.run.proofs.Story.{benchAt, Ending, agreed, differed, stopped, Story, run-story, story-reached}
+use Rattle.run.proofs.Story.{benchAt, Ending, agreed, differed, stopped, run-story, story-reached}
 
 -- ---- what is said
 

@@ -1,8 +1,8 @@
 -- The marks gathered on the way are those that document 01 gives the slot, since the marks of a good sheet ascend by time. Assumes nothing.
-use mathlib.Core.Path.{_≡_, refl, sym, ap, ap₂, _∙_}
-use mathlib.Core.Bool.{Bool, true, false, not, _&&_, _||_}
+use mathlib.Core.Path.{_≡_, sym, ap, ap₂, _∙_}
+use mathlib.Core.Bool.{Bool, true, false, _&&_, _||_}
 use mathlib.Core.Logic.{_⊎_, inl, inr, ⊎-elim}
-use Prim.Native.Nat.{ℕ, zero, suc, _+_, _-_, _%_, _^_, _≤_, _<_}
+use Prim.Native.Nat.{ℕ, zero, suc, _+_, _-_, _^_, _≤_, _<_}
 use native.Mathlib.Nat.{le-refl}
 use native.Mathlib.Omega.{arith}
 use lib.Dec.{leb, ltb, eqb}
@@ -12,13 +12,12 @@ use borrow.Author.Tests.{ltb-true, eqb-true, eqb-false, eq-eqb, ne-eqb, le-leb, 
 use Rattle.lists.proofs.Tests.{both, and-true}
 use Rattle.seats.specs.Sets.{hasSeat, withoutSeat}
 use Rattle.seats.proofs.Sets.{nobody-in, same-sets, without-le, without-same, without-other}
-use Rattle.steps.specs.Run.{Marks}
 use Rattle.sheet.specs.Bytes.{send, receive, dark}
 use Rattle.sheet.specs.Marks.{above}
 use Rattle.sheet.specs.Good.{markOf, GoodSheet}
 use Rattle.sheet.specs.declared.Mark.{Mark}
 use Rattle.sheet.specs.declared.Sheet.{Sheet}
-use Rattle.run.specs.Marks.{anyBelow, says, darkens, ownerAt, sendMark, receiveMark, seatsWith, marksAt}
+use Rattle.run.specs.Marks.{anyBelow, says, darkens, ownerAt, receiveMark, seatsWith, marksAt}
 use Rattle.run.specs.Inside.{noneGathered, added, withMark, slotOver, givenBy}
 use Rattle.run.specs.declared.marks.Gathered.{Gathered}
 use Rattle.run.proofs.Any.{any-more, any-same, any-none, any-up-to, any-or}

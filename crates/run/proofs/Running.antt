@@ -9,8 +9,7 @@ use lib.Dec.{eqb}
 use lib.ListN.{length}
 use borrow.Author.Tests.{eq-eqb, ne-eqb, le-leb}
 use Rattle.limits.specs.Refusals as limits
-use Rattle.limits.specs.Refusals.{Told}
-use Rattle.ring.specs.Ring.{seatOf, ownerOf, freshRing, zeroRing}
+use Rattle.ring.specs.Ring.{seatOf, ownerOf, freshRing}
 use Rattle.ring.specs.Step.{slotOf}
 use Rattle.ring.specs.Refusals.{told}
 use Rattle.ring.specs.Promise.{FreshPromise, StepPromise}
@@ -26,7 +25,7 @@ use Rattle.sheet.specs.Good as sheets
 use Rattle.sheet.specs.Good.{GoodSheet}
 use Rattle.sheet.specs.declared.Sheet.{Sheet}
 use Rattle.run.specs.Marks.{ownerAt, marksAt}
-use Rattle.run.specs.Outcome.{agrees, differs, Outcome, ran, refused, Result}
+use Rattle.run.specs.Outcome.{agrees, differs, Outcome, refused, Result}
 use Rattle.run.specs.Run.{spokenOn, ends, judged, runFrom, runSheet}
 use Rattle.run.specs.Inside.{noneGathered, withMark, slotOver, givenBy, spokenBy, Ended, Leaves}
 use Rattle.run.specs.declared.Ran.{Ran}
@@ -103,7 +102,7 @@ going-start sheet t = record {
   same = λ left e. let q : left ≡ sheet .«slot_count» = omega arith in ap (λ (k : ℕ). runFrom k sheet (freshBench (sheet .n) t)) q;
 }
 
-module _ (sheet : Sheet) (all : Result) (trail : List ℕ) (r : Ring) (g : Gathered) (at : ℕ) (go : Going sheet all trail r g at) where
+module _ {sheet : Sheet} {all : Result} {trail : List ℕ} {r : Ring} {g : Gathered} {at : ℕ} (go : Going sheet all trail r g at) where
   -- one mark more of this slot
   pub going-mark : GoodSheet sheet → g .next < sheet .«mark_count» → sheets.markOf sheet (g .next) .time ≡ at
       → Going sheet all trail r (withMark g (sheets.markOf sheet (g .next))) at
@@ -157,7 +156,7 @@ module _ (sheet : Sheet) (all : Result) (trail : List ℕ) (r : Ring) (g : Gathe
         sym from ∙ run-differs sheet b left (ne-eqb (spokenOn (marksOn sheet b) b) (heardOn sheet b) (λ e. n (e ∙ sym line)))
         ∙ ap (λ (t : ℕ). judged sheet b (differs t)) (go .time)
 
-    module _ (heard : spokenOn (marksOn sheet b) b ≡ sheets.slotOf sheet at) (s : Stepped) (t′ : List ℕ)
+    module _ (heard : spokenOn (marksOn sheet b) b ≡ sheets.slotOf sheet at) {s : Stepped} {t′ : List ℕ}
         (p : StepPromise r (given .send) (given .receive) trail s t′) where
       alike : eqb (spokenOn (marksOn sheet b) b) (heardOn sheet b) ≡ true
       alike = eq-eqb (spokenOn (marksOn sheet b) b) (heardOn sheet b) (heard ∙ line)

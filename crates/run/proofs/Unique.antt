@@ -6,11 +6,10 @@ use native.Mathlib.Omega.{arith}
 use Rattle.limits.proofs.Refusals.{one-reason}
 use Rattle.limits.specs.Refusals.{numberOf}
 use Rattle.ring.specs.Refusals.{found}
-use Rattle.ring.specs.declared.Ring.{Ring}
 use Rattle.ring.specs.declared.Judged.{Judged}
 use Rattle.ring.specs.declared.Verdict.{Verdict}
 use Rattle.ring.proofs.Unique.{one-judged}
-use Rattle.run.specs.Outcome.{heard, ran, refused, said, Result}
+use Rattle.run.specs.Outcome.{heard, ran, refused, said}
 use Rattle.run.specs.Run.{runOf, RunPromise}
 use Rattle.run.specs.declared.Bus.{Bus}
 use Rattle.run.specs.declared.Bus.the-variants.{Agrees, Differs}

@@ -1,5 +1,5 @@
 -- The run of a sheet, document 01: a fresh ring stepped through the slots, the bus compared before each step.
-use mathlib.Core.Bool.{Bool, cond}
+use mathlib.Core.Bool.{cond}
 use mathlib.Core.List.{List}
 use mathlib.Core.Path.{_≡_}
 use Prim.Native.Nat.{ℕ, zero, suc}

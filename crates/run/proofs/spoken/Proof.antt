@@ -1,7 +1,6 @@
 -- `spoken`: silence, or the bit. Assumes nothing.
 use borrow.Author.Needs.{needs}
 use mathlib.Core.Path.{sym, _∙_}
-use mathlib.Core.Bool.{not}
 use Rattle.lists.proofs.Tests.{and-false}
 use Rattle.run.proofs.spoken.Statement.{statement}
 use Rattle.run.proofs.spoken.Tie as tie

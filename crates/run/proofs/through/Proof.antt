@@ -11,7 +11,7 @@ use Rattle.run.specs.Marks.{ownerAt}
 use Rattle.run.specs.Inside.{givenBy, spokenBy}
 use Rattle.run.specs.declared.marks.Given.{Given}
 use Rattle.run.proofs.Gathering.{Whole, all-gathered}
-use Prim.Native.Nat.{ℕ, _+_, _-_, _%_, _≤_, _<_}
+use Prim.Native.Nat.{_+_, _-_, _%_, _<_}
 use mathlib.Core.Path.{_≡_, refl, sym, ap, _∙_, subst}
 use native.Mathlib.Omega.{arith}
 use Rattle.run.specs.Run.{spokenOn, runSheet}
@@ -55,7 +55,7 @@ said c =
     let o = ownerAt sheet (l .loop .at) in
     c .spoken .ensures
     ∙ ap (λ (x : Given). spokenBy (seatOf r o .set) (seatOf r o .ack) o (x .send)) (c .before .before .before .given-by .ensures)
-    ∙ spoken-given sheet (runSheet sheet (start l .args .trail .now)) (l .loop .trail) r (l .loop .gathered) (l .loop .at) (l .loop .inv .0) (start l .pre) (c .before .before .before .before .before .loop-test .taken) (whole j)
+    ∙ spoken-given (l .loop .inv .0) (start l .pre) (c .before .before .before .before .before .loop-test .taken) (whole j)
 
 -- it is what was heard
 heard : (c : tie.Else3 Inv-loop μ-loop) → let l = c .before .before .before .before .before .before .before .before in let b = bench (l .loop .ring) (l .loop .trail) in
@@ -70,6 +70,15 @@ promise c =
     let l = c .before .before .before .before .before .before .before .before .before .before in
     subst (λ (x : Given). StepPromise (l .loop .ring) (x .send) (x .receive) (l .loop .trail) (c .step .result) (c .step .last .1 .1 .1 .0))
     (c .before .before .before .before .before .before .before .given-by .ensures) (c .step .ensures)
+
+-- and the trail keeps its length
+kept : (c : tie.After-step Inv-loop μ-loop) → let l = c .before .before .before .before .before .before .before .before .before .before in
+    length (c .step .last .1 .1 .1 .0) ≡ length (start l .args .trail .now)
+kept c =
+    let e = c .before .before in
+    let j = e .before .before .before .before .before .before in
+    let l = j .before .before in
+    going-length (l .loop .inv .0) (start l .pre) (j .before .loop-test .taken) (whole j) (heard e) (promise c) ∙ l .loop .inv .1
 
 zero-requires : tie.Need-zero-requires Inv-loop μ-loop
 zero-requires c κs = search needs
@@ -107,7 +116,7 @@ loop-again : tie.Need-loop-again Inv-loop μ-loop
 loop-again c = let l = c .before .before .before .before .before .before in
     let a = start l in
     let q = c .before .if2 .taken in
-    (rw (c .with-mark .ensures) (going-mark (a .args .t1) _ (l .loop .trail) (l .loop .ring) (l .loop .gathered) (l .loop .at) (l .loop .inv .0) (a .pre) (c .before .before .before .before .if1 .taken) q), l .loop .inv .1)
+    (rw (c .with-mark .ensures) (going-mark (l .loop .inv .0) (a .pre) (c .before .before .before .before .if1 .taken) q), l .loop .inv .1)
 
 rem-owner : tie.Need-rem-owner Inv-loop μ-loop
 rem-owner c = search needs
@@ -145,7 +154,7 @@ returns c = let p = c .before .before .before in
     let l = j .before .before in
     let a = start l in
     leaves (a .args .t1) (l .loop .ring) (l .loop .trail) _ _ (c .judged .ensures)
-    (going-differs (a .args .t1) _ (l .loop .trail) (l .loop .ring) (l .loop .gathered) (l .loop .at) (l .loop .inv .0) (a .pre) (j .before .loop-test .taken) (whole j)
+    (going-differs (l .loop .inv .0) (a .pre) (j .before .loop-test .taken) (whole j)
     (λ e. c .before .if3 .taken (said p ∙ e)))
 
 step-requires : tie.Need-step-requires Inv-loop μ-loop
@@ -161,12 +170,7 @@ refused-requires : tie.Need-refused-requires Inv-loop μ-loop
 refused-requires c κs = search needs
 
 same-length-2 : tie.Need-same-length-2 Inv-loop μ-loop
-same-length-2 c = let p = c .before .before .before .before .before .before .before in
-    let e = p .before .before in
-    let j = e .before .before .before .before .before .before in
-    let l = j .before .before in
-    let a = start l in
-    going-length (a .args .t1) (runSheet (a .args .t1) (a .args .trail .now)) (l .loop .trail) (l .loop .ring) (l .loop .gathered) (l .loop .at) (l .loop .inv .0) (a .pre) (j .before .loop-test .taken) (whole j) (heard e) (p .step .result) (p .step .last .1 .1 .1 .0) (promise p) ∙ l .loop .inv .1
+same-length-2 c = kept (c .before .before .before .before .before .before .before)
 
 returns-2 : tie.Need-returns-2 Inv-loop μ-loop
 returns-2 c = let p = c .before .before .before .before .before .before .before in
@@ -175,7 +179,7 @@ returns-2 c = let p = c .before .before .before .before .before .before .before 
     let l = j .before .before in
     let a = start l in
     leaves (a .args .t1) (p .step .result .ring) (p .step .last .1 .1 .1 .0) _ _ (c .refused .ensures)
-    (going-stops (a .args .t1) (runSheet (a .args .t1) (a .args .trail .now)) (l .loop .trail) (l .loop .ring) (l .loop .gathered) (l .loop .at) (l .loop .inv .0) (a .pre) (j .before .loop-test .taken) (whole j) (heard e) (p .step .result) (p .step .last .1 .1 .1 .0) (promise p) (ap told (c .before .before .answer .given .1)))
+    (going-stops (l .loop .inv .0) (a .pre) (j .before .loop-test .taken) (whole j) (heard e) (promise p) (ap told (c .before .before .answer .given .1)))
 
 enum-told : tie.Need-enum-told Inv-loop μ-loop
 enum-told c = search needs
@@ -195,7 +199,7 @@ loop-again-2 c = let p = c .before .before .before .before .before .before in
     let j = e .before .before .before .before .before .before in
     let l = j .before .before in
     let a = start l in
-    (rw (c .slot-over .ensures) (going-on (a .args .t1) (runSheet (a .args .t1) (a .args .trail .now)) (l .loop .trail) (l .loop .ring) (l .loop .gathered) (l .loop .at) (l .loop .inv .0) (a .pre) (j .before .loop-test .taken) (whole j) (heard e) (p .step .result) (p .step .last .1 .1 .1 .0) (promise p) (ap told (c .before .enum-told .given .1))), going-length (a .args .t1) (runSheet (a .args .t1) (a .args .trail .now)) (l .loop .trail) (l .loop .ring) (l .loop .gathered) (l .loop .at) (l .loop .inv .0) (a .pre) (j .before .loop-test .taken) (whole j) (heard e) (p .step .result) (p .step .last .1 .1 .1 .0) (promise p) ∙ l .loop .inv .1)
+    (rw (c .slot-over .ensures) (going-on (l .loop .inv .0) (a .pre) (j .before .loop-test .taken) (whole j) (heard e) (promise p) (ap told (c .before .enum-told .given .1))), kept p)
 
 judged-requires-2 : tie.Need-judged-requires-2 Inv-loop μ-loop
 judged-requires-2 c κs = search needs
@@ -207,7 +211,7 @@ returns-3 : tie.Need-returns-3 Inv-loop μ-loop
 returns-3 c = let l = c .before .before in
     let a = start l in
     leaves (a .args .t1) (l .loop .ring) (l .loop .trail) _ _ (c .judged2 .ensures)
-    (going-over (a .args .t1) _ (l .loop .trail) (l .loop .ring) (l .loop .gathered) (l .loop .at) (l .loop .inv .0) (c .before .loop-test .left))
+    (going-over (l .loop .inv .0) (c .before .loop-test .left))
 
 pub through-spec : {M : Type 1} → statement M
 through-spec =

@@ -1,8 +1,5 @@
 -- `with_seat`: 1 shifted by less than the width is the power. Assumes nothing.
 use borrow.Author.Needs.{needs}
-use mathlib.Core.Path.{ap}
-use Prim.Native.Nat.{ℕ}
-use lib.Bits.{bitOr}
 use Rattle.seats.proofs.Machine.{one-shifted}
 use Rattle.run.proofs.marks.with_seat.Statement.{statement}
 use Rattle.run.proofs.marks.with_seat.Tie as tie
