@@ -11,7 +11,7 @@ extern "C" {
 #endif
 
 /* A page buffer of this many bytes is never too short, whatever the sheet. */
-#define KNELLNETTLE_PAGE_BYTES 20480
+#define KNELLNETTLE_PAGE_BYTES 21504
 
 /*
  * Runs the sheet with a trail of 5,120 bytes and writes the page that document 01 fixes:

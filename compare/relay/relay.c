@@ -14,7 +14,7 @@ size knellnettle_page(const byte *sheet, size sheet_len, byte *page, size page_l
 long read(int file, void *to, size length);
 long write(int file, const void *from, size length);
 
-enum { HEAD = 12, SHEET_MOST = 1 << 16, PAGE_MOST = 20480, GUARD = 16, GUARD_BYTE = 0x55 };
+enum { HEAD = 12, SHEET_MOST = 1 << 16, PAGE_MOST = 21504, GUARD = 16, GUARD_BYTE = 0x55 };
 
 /* How the program ends. */
 enum { DONE = 0, CUT_SHORT = 2, TOO_LONG = 3, NOT_WRITTEN = 4, GUARD_CHANGED = 5 };

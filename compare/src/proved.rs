@@ -14,7 +14,7 @@ mod relayed;
 use relayed as side;
 
 /// A page buffer of this many bytes is never too short.
-pub const PAGE_BYTES: usize = 20_480;
+pub const PAGE_BYTES: usize = 21_504;
 
 /// Whether the library runs under an emulator, so that its times say nothing.
 pub const EMULATED: bool = cfg!(not(target_arch = "x86_64"));
