@@ -1,7 +1,7 @@
 -- No two reasons have one number. Assumes nothing.
 use mathlib.Core.Path.{_≡_, refl, sym, ap, _∙_}
-use Prim.Native.Nat.{ℕ, zero, suc}
-use Rattle.limits.specs.Refusals.{numberOf, Told, done, refused}
+use Prim.Native.Nat.{ℕ}
+use Rattle.limits.specs.Refusals.{numberOf}
 use Rattle.limits.specs.declared.Refusal.{Refusal}
 use Rattle.limits.specs.declared.Refusal.the-variants.{EndsEarly, WrongByte, OutsideLimits, ModuleTwice, MarkNotAbove, WrongMark, BytesAfter, NoRoom, AtTheEnd, NotARing}
 use lib.ListN.{getD}

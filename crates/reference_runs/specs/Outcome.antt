@@ -1,6 +1,6 @@
 -- What a run is given, and what comes of it by the engine's and the reader's own definitions.
 use mathlib.Core.Bool.{Bool, true, false, cond}
-use mathlib.Core.List.{List, [], _∷_, map}
+use mathlib.Core.List.{List, [], _∷_}
 use Prim.Native.Nat.{ℕ, _*_, _^_}
 use lib.ListN.{take, replicate}
 use Rattle.limits.specs.Refusals.{Told}

@@ -4,7 +4,7 @@ use mathlib.Core.List.{List, [], _∷_, _++_}
 use Prim.Native.Nat.{ℕ}
 use Rattle.ring.specs.Table.{gone}
 use Rattle.ring.specs.Trail.{recordOf}
-use Rattle.ring.specs.Refusals.{Finding, within, outside}
+use Rattle.ring.specs.Refusals.{within, outside}
 use Rattle.ring.specs.declared.table.Cause.{Cause}
 use Rattle.ring.specs.declared.table.Cause.the-variants.{A, B, C, D, E}
 use Rattle.limits.specs.Refusals.{refused}

@@ -1,6 +1,6 @@
 -- The verdict on a ring, by what the search for it finds. Assumes nothing.
-use mathlib.Core.Path.{_≡_, refl, sym, ap, _∙_}
-use mathlib.Core.Bool.{Bool, true, false, cond, _&&_}
+use mathlib.Core.Path.{_≡_}
+use mathlib.Core.Bool.{true, false, _&&_}
 use Prim.Native.Nat.{ℕ, suc, _≤_, _<_}
 use native.Mathlib.Omega.{arith}
 use lib.Dec.{leb, ltb}
@@ -12,7 +12,7 @@ use Rattle.limits.specs.declared.Refusal.the-variants.{NotARing}
 use Rattle.seats.specs.Sets.{fullSet}
 use Rattle.ring.specs.Ring.{seatOf, seatsStand, memberStands, seatStands, everySeatStands, isRing}
 use Rattle.ring.specs.Terms.{firstFailing}
-use Rattle.ring.specs.Refusals.{Finding, within, outside, unfit, verdictFound}
+use Rattle.ring.specs.Refusals.{within, outside, unfit, verdictFound}
 use Rattle.ring.specs.Inside.{firstFound}
 use Rattle.ring.specs.declared.Ring.{Ring}
 use Rattle.ring.proofs.Refusing.{checked}

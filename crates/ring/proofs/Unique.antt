@@ -5,9 +5,8 @@ use mathlib.Core.List.{List}
 use Prim.Native.Nat.{ℕ}
 use native.Mathlib.Omega.{arith}
 use Rattle.limits.proofs.Refusals.{one-reason}
-use Rattle.limits.specs.Refusals.{numberOf, Told, done, refused}
-use Rattle.limits.specs.declared.Refusal.{Refusal}
-use Rattle.ring.specs.Refusals.{told, Finding, within, outside, unfit, found}
+use Rattle.limits.specs.Refusals.{numberOf}
+use Rattle.ring.specs.Refusals.{told, found}
 use Rattle.ring.specs.Promise.{ZeroPromise, FreshPromise, StepPromise, VerdictPromise}
 use Rattle.ring.specs.declared.Ring.{Ring}
 use Rattle.ring.specs.declared.Stepped.{Stepped}

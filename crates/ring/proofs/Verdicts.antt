@@ -1,17 +1,17 @@
 -- The verdict's search finds the first step up to which the fault terms fail. Assumes nothing.
 use mathlib.Core.Path.{_≡_, refl, sym, ap, _∙_}
-use mathlib.Core.Bool.{Bool, true, false, cond, not, _&&_, _||_, true≢false, false≢true}
+use mathlib.Core.Bool.{Bool, true, false, cond, not, true≢false}
 use mathlib.Core.List.{List}
 use mathlib.Core.Logic.{_⊎_, inl, inr, ⊎-elim}
-use Prim.Native.Nat.{ℕ, zero, suc, _+_, _-_, _≤_, _<_, min}
+use Prim.Native.Nat.{ℕ, zero, suc, _+_, _-_, _≤_, _<_}
 use native.Mathlib.Nat.{le-refl}
 use native.Mathlib.Numerals.{add-one}
 use native.Mathlib.Omega.{arith}
 use lib.Dec.{leb, ltb, eqb}
 use lib.ListN.{getD}
-use borrow.Author.Tests.{lt-ltb, le-ltb, le-leb, lt-leb, eq-eqb, ne-eqb, ltb-true, leb-true, leb-false, eqb-true, eqb-false, not-true, not-false}
+use borrow.Author.Tests.{lt-ltb, le-leb, lt-leb, ne-eqb, ltb-true, leb-true, leb-false, eqb-false, not-false}
 use Rattle.lists.specs.Counted.{allBelow, countBelow, firstBelow}
-use Rattle.lists.proofs.Counted.{sum-mono, sum-same, below-last}
+use Rattle.lists.proofs.Counted.{sum-mono, below-last}
 use Rattle.lists.proofs.Tests.{both, and-true, and-false, and-fails, and-of, all-fails, all-not, first-none, first-is}
 use Rattle.ring.specs.Terms.{faultyBy, distance, apartBy, termsHold}
 use Rattle.ring.specs.Inside.{byStep, tooClose, keepsApart, soundAfter, holdsWith, failingAt, earlier, earliest, firstFound}

@@ -6,7 +6,7 @@ use Rattle.limits.specs.Limits.{slotsMost, roomMost}
 use Rattle.limits.specs.Refusals.{numberOf, Told, done, refused}
 use Rattle.limits.specs.declared.Refusal.the-variants.{WrongMark, NoRoom, AtTheEnd, NotARing}
 use Rattle.seats.specs.Sets.{hasSeat, fullSet}
-use Rattle.ring.specs.Ring.{seatsStand, isRing, ownerOf}
+use Rattle.ring.specs.Ring.{seatsStand, isRing}
 use Rattle.ring.specs.Step.{slotOf, countIn}
 use Rattle.ring.specs.Terms.{firstFailing}
 use Rattle.ring.specs.Trail.{roomFor}

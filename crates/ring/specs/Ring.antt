@@ -1,6 +1,6 @@
 -- The ring as one value: its seats, the owner of a slot, the fresh and the zero ring, and what is not a ring.
 use mathlib.Core.Bool.{Bool, true, false, cond, not, _&&_}
-use mathlib.Core.List.{List, _++_}
+use mathlib.Core.List.{_++_}
 use Prim.Native.Nat.{ℕ, _%_}
 use lib.Dec.{leb, ltb, eqb}
 use lib.ListN.{getD, drop, replicate}

@@ -8,7 +8,7 @@ use Rattle.lists.specs.Counted.{joined, sum}
 use Rattle.lists.specs.Put.{put}
 use Rattle.seats.specs.Sets.{hasSeat}
 use Rattle.ring.specs.Ring.{seatOf, ownerOf, out, drawnTo, withCounts}
-use Rattle.ring.specs.Table.{decided, Gone, goneBy, countOf, withoutAll}
+use Rattle.ring.specs.Table.{decided, Gone, goneBy, withoutAll}
 use Rattle.ring.specs.Trail.{width, recordsOf}
 use Rattle.ring.specs.declared.Ring.{Ring}
 use Rattle.ring.specs.declared.slot.Seat.{Seat}
@@ -16,7 +16,6 @@ use Rattle.ring.specs.declared.slot.Slot.{Slot}
 use Rattle.ring.specs.declared.slot.Turn.{Turn}
 use Rattle.ring.specs.declared.table.View.{View}
 use Rattle.ring.specs.declared.table.View.the-variants.{Silent, Missed, Heard}
-use Rattle.ring.specs.declared.table.Removal.{Removal}
 use Rattle.ring.specs.declared.table.Removal.the-variants.{Nobody}
 use Rattle.ring.specs.declared.table.Decision.{Decision}
 

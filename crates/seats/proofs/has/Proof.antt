@@ -1,7 +1,6 @@
 -- `has`: a mask has no digit past its 32. Assumes nothing.
 use borrow.Author.Needs.{needs}
 use mathlib.Core.Path.{sym}
-use native.Mathlib.Omega.{arith}
 use Rattle.seats.proofs.Sets.{none-past}
 use Rattle.seats.proofs.has.Statement.{statement}
 use Rattle.seats.proofs.has.Tie as tie

@@ -1,7 +1,6 @@
 -- `without`: the mask with one digit cleared, and a mask has none past its 32. Assumes nothing.
 use borrow.Author.Needs.{needs}
-use mathlib.Core.Path.{_≡_, sym, ap, _∙_}
-use native.Mathlib.Omega.{arith}
+use mathlib.Core.Path.{sym, ap, _∙_}
 use Prim.Native.Nat.{ℕ, _-_, _^_}
 use lib.Bits.{bitAnd}
 use Rattle.seats.proofs.Machine.{one-shifted, and-all-but}

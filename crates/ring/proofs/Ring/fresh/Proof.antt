@@ -1,6 +1,5 @@
 -- `fresh`: refused outside the limits, and else filled. Assumes nothing.
 use borrow.Author.Needs.{needs}
-use mathlib.Core.Path.{_≡_, refl, sym, ap, _∙_}
 use borrow.Author.Tests.{le-leb, lt-leb}
 use Rattle.ring.proofs.Ring.fresh.Statement.{statement}
 use Rattle.ring.proofs.Ring.fresh.Tie as tie

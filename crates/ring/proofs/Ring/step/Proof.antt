@@ -1,10 +1,9 @@
 -- `step`: the checks in their order; then the ring drawn, the room tested and the records written. Assumes nothing.
 use borrow.Author.Needs.{needs}
 use mathlib.Core.Path.{_≡_, refl, sym, ap, _∙_}
-use Prim.Native.Nat.{ℕ, _+_, _-_, _*_, _≤_, _<_}
+use Prim.Native.Nat.{_+_, _*_}
 use native.Mathlib.Omega.{arith}
-use mathlib.Core.Bool.{Bool, true, false}
-use mathlib.Core.List.{List}
+use mathlib.Core.Bool.{true, false}
 use lib.ListN.{length}
 use lib.Dec.{leb}
 use borrow.Author.Tests.{not-true, not-false, eq-eqb, ne-eqb, le-leb, lt-leb}
@@ -12,7 +11,7 @@ use Rattle.lists.specs.Counted.{joined}
 use Rattle.lists.specs.Put.{put}
 use Rattle.ring.specs.Ring.{isRing, withCounts}
 use Rattle.ring.specs.Trail.{width, roomFor}
-use Rattle.ring.specs.Step.{slotOf, countIn, recordsAt, ringAfter}
+use Rattle.ring.specs.Step.{slotOf, countIn, recordsAt}
 use Rattle.ring.specs.Refusals.{marksStand}
 use Rattle.ring.specs.Inside.{Drawable, drawnOf}
 use Rattle.ring.specs.declared.Ring.{Ring}

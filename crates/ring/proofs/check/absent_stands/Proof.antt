@@ -1,5 +1,4 @@
 -- `absent_stands`: each test in the order of the definition. Assumes nothing.
-use mathlib.Core.Path.{_≡_, refl, sym, ap, _∙_}
 use borrow.Author.Tests.{eq-eqb, ne-eqb}
 use Rattle.ring.proofs.check.absent_stands.Statement.{statement}
 use Rattle.ring.proofs.check.absent_stands.Tie as tie

@@ -1,6 +1,5 @@
 -- `is_ring`: the definition, test by test. Assumes nothing.
 use borrow.Author.Needs.{needs}
-use mathlib.Core.Path.{_≡_, refl, sym, ap, _∙_}
 use borrow.Author.Tests.{le-leb, lt-leb}
 use Rattle.ring.specs.Ring.{isRing}
 use Rattle.ring.proofs.check.is_ring.Statement.{statement}

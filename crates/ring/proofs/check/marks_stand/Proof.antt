@@ -1,6 +1,5 @@
 -- `marks_stand`: no seat past the ring, and not the owner. Assumes nothing.
 use borrow.Author.Needs.{needs}
-use mathlib.Core.Path.{_≡_, refl, sym, ap, _∙_}
 use borrow.Author.Tests.{le-leb, lt-leb}
 use Rattle.ring.proofs.check.marks_stand.Statement.{statement}
 use Rattle.ring.proofs.check.marks_stand.Tie as tie

@@ -1,5 +1,4 @@
 -- `member_stands`: each test in the order of the definition. Assumes nothing.
-use mathlib.Core.Path.{_≡_, refl, sym, ap, _∙_}
 use borrow.Author.Tests.{le-leb, lt-leb}
 use Rattle.ring.proofs.check.member_stands.Statement.{statement}
 use Rattle.ring.proofs.check.member_stands.Tie as tie

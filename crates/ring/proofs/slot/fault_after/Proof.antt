@@ -1,6 +1,5 @@
 -- `fault_after`: the first mark that takes hold decides. Assumes nothing.
 use borrow.Author.Needs.{needs}
-use mathlib.Core.Path.{_≡_, refl, sym, ap, _∙_}
 use borrow.Author.Tests.{eq-eqb, ne-eqb}
 use Rattle.ring.proofs.slot.fault_after.Statement.{statement}
 use Rattle.ring.proofs.slot.fault_after.Tie as tie

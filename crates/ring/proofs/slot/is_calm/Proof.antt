@@ -1,6 +1,5 @@
 -- `is_calm`: three tests. Assumes nothing.
-use mathlib.Core.Path.{_≡_, refl, sym, ap, _∙_}
-use mathlib.Core.Bool.{Bool, true, false, _&&_}
+use mathlib.Core.Bool.{true, false}
 use borrow.Author.Tests.{not-true, not-false}
 use Rattle.ring.proofs.slot.is_calm.Statement.{statement}
 use Rattle.ring.proofs.slot.is_calm.Tie as tie

@@ -1,6 +1,5 @@
 -- `keeps_all`: four tests. Assumes nothing.
-use mathlib.Core.Path.{_≡_, refl, sym, ap, _∙_}
-use mathlib.Core.Bool.{Bool, true, false, _&&_}
+use mathlib.Core.Bool.{true, false}
 use borrow.Author.Tests.{not-true, not-false}
 use Rattle.ring.proofs.slot.keeps_all.Statement.{statement}
 use Rattle.ring.proofs.slot.keeps_all.Tie as tie

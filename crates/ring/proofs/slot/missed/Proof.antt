@@ -1,6 +1,5 @@
 -- `missed`: no mark takes hold where the owner is silent. Assumes nothing.
 use borrow.Author.Needs.{needs}
-use mathlib.Core.Path.{_≡_, refl, sym, ap, _∙_}
 use Rattle.ring.proofs.slot.missed.Statement.{statement}
 use Rattle.ring.proofs.slot.missed.Tie as tie
 

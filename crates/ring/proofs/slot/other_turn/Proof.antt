@@ -1,12 +1,9 @@
 -- `other_turn`: what is seen, decided, removed and held, in turn. Assumes nothing.
 use borrow.Author.Needs.{needs}
-use mathlib.Core.Path.{_≡_, refl, sym, ap, _∙_}
-use Prim.Native.Nat.{ℕ}
-use mathlib.Core.Bool.{Bool}
-use Rattle.ring.specs.Table.{decided, goneBy, withoutAll}
-use Rattle.ring.specs.Step.{viewOf, misses, faultAfter, decidedTurn}
+use mathlib.Core.Path.{_≡_, ap, _∙_}
+use Rattle.ring.specs.Table.{decided}
+use Rattle.ring.specs.Step.{viewOf, decidedTurn}
 use Rattle.ring.specs.declared.table.View.{View}
-use Rattle.ring.specs.declared.table.Decision.{Decision}
 use Rattle.ring.specs.declared.slot.Turn.{Turn}
 use Rattle.ring.proofs.slot.other_turn.Statement.{statement}
 use Rattle.ring.proofs.slot.other_turn.Tie as tie

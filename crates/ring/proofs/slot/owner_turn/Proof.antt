@@ -1,6 +1,5 @@
 -- `owner_turn`: the definition, field by field. Assumes nothing.
 use borrow.Author.Needs.{needs}
-use mathlib.Core.Path.{_≡_, refl, sym, ap, _∙_}
 use Rattle.ring.proofs.slot.owner_turn.Statement.{statement}
 use Rattle.ring.proofs.slot.owner_turn.Tie as tie
 

@@ -1,7 +1,6 @@
 -- `slot_for`: the owner speaks only from its own set. Assumes nothing.
 use borrow.Author.Needs.{needs}
-use mathlib.Core.Path.{_≡_, refl, sym, ap, _∙_}
-use mathlib.Core.Bool.{not, _&&_}
+use mathlib.Core.Path.{sym, _∙_}
 use Rattle.ring.proofs.slot.slot_for.Statement.{statement}
 use Rattle.ring.proofs.slot.slot_for.Tie as tie
 

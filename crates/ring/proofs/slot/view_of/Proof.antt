@@ -1,6 +1,6 @@
 -- `view_of`: silent, missed or heard. Assumes nothing.
 use borrow.Author.Needs.{needs}
-use mathlib.Core.Path.{_≡_, refl, sym, ap, _∙_}
+use mathlib.Core.Path.{sym, _∙_}
 use borrow.Author.Tests.{not-true, not-false}
 use Rattle.ring.proofs.slot.view_of.Statement.{statement}
 use Rattle.ring.proofs.slot.view_of.Tie as tie

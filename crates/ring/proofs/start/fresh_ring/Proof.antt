@@ -1,10 +1,9 @@
 -- `fresh_ring`: before seat p the seats below it are fresh. Assumes nothing.
 use borrow.Author.Needs.{needs}
-use mathlib.Core.Path.{_≡_, refl, sym, ap, _∙_}
-use Prim.Native.Nat.{ℕ, _+_, _-_, _*_, _≤_, _<_}
+use mathlib.Core.Path.{_≡_, ap, _∙_}
+use Prim.Native.Nat.{ℕ, _-_, _≤_}
 use native.Mathlib.Omega.{arith}
-use mathlib.Core.List.{List}
-use Rattle.ring.specs.Ring.{zeroRing, drawnTo, withCounts, freshSeat, freshRing}
+use Rattle.ring.specs.Ring.{withCounts, freshSeat, freshRing}
 use Rattle.ring.specs.declared.Ring.{Ring}
 use Rattle.ring.proofs.Starting.{begun, filled, begun-none, begun-next}
 use Rattle.ring.proofs.start.fresh_ring.Statement.{statement}

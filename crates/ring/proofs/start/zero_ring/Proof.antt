@@ -1,5 +1,5 @@
 -- `zero_ring`: 32 empty seats. Assumes nothing.
-use mathlib.Core.Path.{_≡_, refl, sym, ap, _∙_}
+use mathlib.Core.Path.{refl}
 use Rattle.ring.specs.Ring.{zeroRing}
 use Rattle.ring.proofs.start.zero_ring.Statement.{statement}
 use Rattle.ring.proofs.start.zero_ring.Tie as tie

@@ -1,6 +1,6 @@
 -- `after_removal`: one seat after the other. Assumes nothing.
 use borrow.Author.Needs.{needs}
-use mathlib.Core.Path.{_≡_, refl, sym, ap, _∙_}
+use mathlib.Core.Path.{ap, _∙_}
 use Rattle.seats.specs.Sets.{withoutSeat}
 use Prim.Native.Nat.{ℕ}
 use Rattle.ring.proofs.table.after_removal.Statement.{statement}

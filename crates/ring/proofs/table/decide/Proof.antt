@@ -1,6 +1,6 @@
 -- `decide`: the row for each view. Assumes nothing.
 use borrow.Author.Needs.{needs}
-use mathlib.Core.Path.{_≡_, refl, sym, ap, _∙_}
+use mathlib.Core.Path.{_∙_}
 use Rattle.ring.proofs.table.decide.Statement.{statement}
 use Rattle.ring.proofs.table.decide.Tie as tie
 

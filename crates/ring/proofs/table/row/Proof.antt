@@ -1,11 +1,9 @@
--- `row`: the two rows where the bit did not arrive, and those of the two helpers. Assumes nothing.
+-- `row`: the two rows where the bit did not arrive, and those of the two functions for a bit that arrived. Assumes nothing.
 use borrow.Author.Needs.{needs}
-use mathlib.Core.Path.{_≡_, refl, sym, ap, _∙_}
+use mathlib.Core.Path.{_≡_, refl, ap, _∙_}
 use mathlib.Core.Bool.{Bool, true, false}
 use borrow.Author.Tests.{not-true, not-false}
-use Rattle.ring.specs.Table.{Row, table, decisionBy}
-use Rattle.ring.specs.declared.table.Decision.{Decision}
-use Rattle.ring.specs.declared.table.View.{View}
+use Rattle.ring.specs.Table.{table, decisionBy}
 use Rattle.ring.proofs.table.row.Statement.{statement}
 use Rattle.ring.proofs.table.row.Tie as tie
 

@@ -1,5 +1,4 @@
 -- `spoke_false`: the three rows. Assumes nothing.
-use mathlib.Core.Path.{_≡_, refl, sym, ap, _∙_}
 use borrow.Author.Tests.{not-true, not-false}
 use Rattle.ring.proofs.table.spoke_false.Statement.{statement}
 use Rattle.ring.proofs.table.spoke_false.Tie as tie

@@ -1,5 +1,4 @@
 -- `spoke_true`: the two rows. Assumes nothing.
-use mathlib.Core.Path.{_≡_, refl, sym, ap, _∙_}
 use Rattle.ring.proofs.table.spoke_true.Statement.{statement}
 use Rattle.ring.proofs.table.spoke_true.Tie as tie
 

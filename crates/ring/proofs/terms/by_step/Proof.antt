@@ -1,5 +1,4 @@
 -- `by_step`: both tests. Assumes nothing.
-use mathlib.Core.Path.{_≡_, refl, sym, ap, _∙_}
 use borrow.Author.Tests.{lt-ltb, le-ltb}
 use Rattle.ring.proofs.terms.by_step.Statement.{statement}
 use Rattle.ring.proofs.terms.by_step.Tie as tie

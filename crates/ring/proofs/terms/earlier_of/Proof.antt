@@ -1,7 +1,7 @@
 -- `earlier_of`: by which of the two is none. Assumes nothing.
-use mathlib.Core.Path.{_≡_, refl, sym, ap, _∙_}
+use mathlib.Core.Path.{_≡_, refl, sym, _∙_}
 use native.Mathlib.Omega.{arith}
-use Prim.Native.Nat.{ℕ, zero, suc, _≤_, _<_, min}
+use Prim.Native.Nat.{ℕ, zero, suc, min}
 use Rattle.ring.specs.Inside.{earlier}
 use Rattle.ring.proofs.terms.earlier_of.Statement.{statement}
 use Rattle.ring.proofs.terms.earlier_of.Tie as tie

@@ -1,7 +1,6 @@
 -- `failing_at`: none without a first fault, or where the terms hold with it. Assumes nothing.
 use borrow.Author.Needs.{needs}
-use mathlib.Core.Path.{_≡_, refl, sym, ap, _∙_}
-use mathlib.Core.Bool.{Bool, true, false, cond, _||_}
+use mathlib.Core.Path.{sym, _∙_}
 use borrow.Author.Tests.{eq-eqb, ne-eqb}
 use Rattle.ring.proofs.terms.failing_at.Statement.{statement}
 use Rattle.ring.proofs.terms.failing_at.Tie as tie

@@ -1,14 +1,14 @@
 -- `holds_with`: before seat q those below it keep apart, and the sound ones among them are counted. Assumes nothing.
 use borrow.Author.Needs.{needs}
 use mathlib.Core.Path.{_≡_, refl, sym, ap, _∙_}
-use Prim.Native.Nat.{ℕ, _+_, _-_, _*_, _≤_, _<_}
+use Prim.Native.Nat.{ℕ, _-_, _≤_}
 use native.Mathlib.Omega.{arith}
 use mathlib.Core.Bool.{Bool, true, false, cond, not, _&&_}
 use mathlib.Core.List.{List}
 use lib.Dec.{leb}
 use lib.ListN.{getD}
 use borrow.Author.Tests.{not-true, not-false}
-use Rattle.lists.specs.Counted.{allBelow, countBelow}
+use Rattle.lists.specs.Counted.{allBelow}
 use Rattle.lists.proofs.Counted.{sum-more, count-le}
 use Rattle.lists.proofs.Tests.{all-more, all-fails}
 use Rattle.ring.specs.Inside.{byStep, keepsApart, soundAfter, holdsWith}

@@ -1,7 +1,7 @@
 -- `keeps_apart`: a seat keeps apart from itself. Assumes nothing.
 use borrow.Author.Needs.{needs}
-use mathlib.Core.Path.{_≡_, refl, sym, ap, _∙_}
-use mathlib.Core.Bool.{Bool, not}
+use mathlib.Core.Path.{ap}
+use mathlib.Core.Bool.{not}
 use borrow.Author.Tests.{eq-eqb, ne-eqb}
 use Rattle.ring.proofs.terms.keeps_apart.Statement.{statement}
 use Rattle.ring.proofs.terms.keeps_apart.Tie as tie

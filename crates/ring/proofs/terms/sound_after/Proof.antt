@@ -1,6 +1,6 @@
 -- `sound_after`: by `by_step`. Assumes nothing.
 use borrow.Author.Needs.{needs}
-use mathlib.Core.Path.{_≡_, refl, sym, ap, _∙_}
+use mathlib.Core.Path.{sym, _∙_}
 use Rattle.ring.proofs.terms.sound_after.Statement.{statement}
 use Rattle.ring.proofs.terms.sound_after.Tie as tie
 

@@ -1,11 +1,9 @@
 -- `too_close`: both tests. Assumes nothing.
 use borrow.Author.Needs.{needs}
-use mathlib.Core.Path.{_≡_, refl, sym, ap, _∙_}
-use native.Mathlib.Omega.{arith}
+use mathlib.Core.Path.{sym, _∙_}
 use lib.Dec.{leb, ltb}
 use Rattle.lists.proofs.Tests.{and-true}
 use borrow.Author.Tests.{leb-true}
-use Rattle.ring.specs.Inside.{byStep}
 use Prim.Native.Nat.{_≤_}
 use Rattle.ring.proofs.terms.too_close.Statement.{statement}
 use Rattle.ring.proofs.terms.too_close.Tie as tie
