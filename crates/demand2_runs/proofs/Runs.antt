@@ -12,6 +12,7 @@ use Rattle.limits.specs.Refusals.{numberOf}
 use Rattle.lists.specs.Counted.{tab}
 use Rattle.ring.specs.Ring.{seatOf}
 use Rattle.ring.specs.Step as step
+use Rattle.ring.specs.Trail.{width}
 use Rattle.ring.specs.declared.Ring.{Ring}
 use Rattle.ring.specs.declared.Answer.the-variants.{Taken}
 use Rattle.steps.specs.Run.{Marks, Bench, toldOn, stepOn, Reached}
@@ -81,7 +82,7 @@ run-holds sheet good trail =
 
 -- ---- the room
 
-ending-room : (sheet : Sheet) → GoodSheet sheet → (t : List ℕ) → 5120 ≤ length t → (k : ℕ) (o : Outcome) → Ending sheet t k o → (place : ℕ) → o ≡ refused 8 place → ⊥
+ending-room : (sheet : Sheet) → GoodSheet sheet → (t : List ℕ) → width * (32 * 32) ≤ length t → (k : ℕ) (o : Outcome) → Ending sheet t k o → (place : ℕ) → o ≡ refused 8 place → ⊥
 ending-room sheet good t long k o (agreed e) place q = let z : _≡_ {A = ℕ} 0 1 = cc in omega arith
 ending-room sheet good t long k o (differed l n) place q = let z : _≡_ {A = ℕ} 0 1 = cc in omega arith
 ending-room sheet good t long k o (stopped {number = number} {place = at} l a e) place q =
@@ -95,7 +96,7 @@ never-eight bytes t long place e =
     ⊎-elim
     (λ r.
     let s = run-story (r .0) t in
-    ending-room (r .0) (r .1) t long (s .steps) _ (s .ending) place (sym (ap (λ (y : Result). y .outcome) (r .2 t)) ∙ e))
+    ending-room (r .0) (r .1) t (omega arith) (s .steps) _ (s .ending) place (sym (ap (λ (y : Result). y .outcome) (r .2 t)) ∙ e))
     (λ r.
     let q = sym (ap (λ (y : Result). y .outcome) (run-offence bytes t (r .2))) ∙ e in
     let n : numberOf (r .0) ≡ 8 = cc in
