@@ -2,7 +2,7 @@
 -- in its footnote 4 (specs/Paper.antt), and changes nothing of a seat outside its own set. The doubt bit stands for the footnote's words 'was
 -- the previous broadcaster and sent a false ack', and along any run it says just that.
 use mathlib.Core.Path.{_≡_, refl, sym, ap, _∙_, subst}
-use mathlib.Core.Bool.{Bool, true, false, cond, not, _&&_, and-true, and-false, Bool·not-not, true≢false}
+use mathlib.Core.Bool.{Bool, true, false, cond, not, _&&_, and-true, and-false, Bool·not-not, true≢false, _||_}
 use mathlib.Core.List.{List}
 use mathlib.Core.Logic.{⊎-elim}
 use Prim.Native.Nat.{ℕ, _≤_, _<_}

@@ -1,7 +1,7 @@
 -- The invariant of a run within the fault terms, over the present state alone: `last` is one more than the time of the latest first fault
 -- (0: none), `bit` the acknowledgement of the sound seats, and `due` whether the latest faulty seat is still in their sets, its own slot
 -- being still to come. Assumes nothing.
-use mathlib.Core.Bool.{Bool, true, false, not, _&&_}
+use mathlib.Core.Bool.{Bool, true, false, not, _&&_, _||_}
 use mathlib.Core.Logic.{_⊎_, ⊎-elim}
 use mathlib.Core.Path.{_≡_}
 use Prim.Native.Nat.{ℕ, suc, _+_, _%_, _≤_, _<_}

@@ -1,7 +1,7 @@
 -- What every kind of step shares: a seat that is out or alone stays so, first faults are spaced, and what is left to show that the invariant
 -- is kept, by a step with a first fault and by one without. Assumes nothing.
 -- Names, here and in the kinds of step: `so` and `sp` say that the owner and p are sound, `fx` that x is faulty, `e..` are equations.
-use mathlib.Core.Bool.{Bool, true, false, not, false≢true, true≢false}
+use mathlib.Core.Bool.{Bool, true, false, not, false≢true, true≢false, _||_}
 use mathlib.Core.Logic.{_⊎_, inl, inr, ⊎-elim}
 use mathlib.Core.Path.{_≡_, refl, sym, _∙_, ap}
 use Prim.Native.Nat.{ℕ, suc, _+_, _%_, _≤_, _<_}

@@ -1,5 +1,5 @@
 -- A sound owner speaks, and every sound seat hears it. Assumes nothing.
-use mathlib.Core.Bool.{Bool, true, false, not, false≢true, true≢false}
+use mathlib.Core.Bool.{Bool, true, false, not, false≢true, true≢false, _||_}
 use mathlib.Core.Logic.{⊎-elim}
 use mathlib.Core.Path.{_≡_, refl, sym, _∙_, ap}
 use Prim.Native.Nat.{ℕ, suc, _+_, _<_}

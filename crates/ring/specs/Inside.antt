@@ -1,10 +1,11 @@
 -- What the engine's inner loops promise. A reader of the public promises needs none of it.
-use mathlib.Core.Bool.{Bool, cond, not, _&&_}
+use mathlib.Core.Bool.{Bool, cond, not, _&&_, _||_}
 use mathlib.Core.List.{List}
 use Prim.Native.Nat.{ℕ, zero, suc, _-_, _≤_, _<_, min}
 use lib.Dec.{leb, ltb, eqb}
 use lib.ListN.{getD}
 use Rattle.lists.specs.Counted.{sum, allBelow, countBelow}
+use Rattle.seats.specs.Sets.{hasSeat}
 use Rattle.ring.specs.Ring.{drawnTo}
 use Rattle.ring.specs.Step.{turnAt, countAt}
 use Rattle.ring.specs.declared.Ring.{Ring}
@@ -21,9 +22,13 @@ pub record Drawable (r : Ring) (c : Slot) : Type 0 where
 abbrev pub calmIn : Slot → Bool
 calmIn c = c .speaks && c .bit && eqb (c .receive) 0
 
--- nothing of such a seat changes then, whatever its set
-abbrev pub keepsAll : Bool → Bool → Bool → ℕ → ℕ → Bool
-keepsAll calm ack doubt p owner = calm && ack && not doubt && not (eqb p owner)
+-- a seat with its acknowledgement true and no doubt has nothing to change in it
+abbrev pub undisturbedBy : Bool → Bool → Bool → Bool
+undisturbedBy calm ack doubt = calm && ack && not doubt
+
+-- seat p is not the owner, and is undisturbed or does not expect the owner
+abbrev pub keepsAll : Bool → ℕ → Bool → Bool → ℕ → ℕ → Bool
+keepsAll calm set ack doubt p owner = not (eqb p owner) && (undisturbedBy calm ack doubt || not (hasSeat set owner))
 
 -- the turns of the seats below k drawn, and their records counted
 abbrev pub drawnOf : Ring → Slot → ℕ → Drawn

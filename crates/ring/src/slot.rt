@@ -1,7 +1,7 @@
 // One slot, and what one seat makes of it from its own set, bits and first fault.
 ghost use mathlib.Core.Path.{_≡_};
 ghost use Prim.Native.Nat.{_<_, _≤_};
-ghost use Rattle.ring.specs.Inside.{calmIn, keepsAll};
+ghost use Rattle.ring.specs.Inside.{calmIn, undisturbedBy, keepsAll};
 ghost use Rattle.ring.specs.Step.{slotFor, misses, viewOf, faultAfter, ownerTurn, otherTurn, turnOf};
 use crate::Ring;
 use crate::table::Removal;
@@ -71,9 +71,9 @@ pub fn is_calm(slot: Slot) -> bool
     slot.receive == 0
 }
 
-// Whether nothing of seat p changes in the slot, whatever its set: it is not the owner, and has nothing to give up.
-pub fn keeps_all(calm: bool, ack: bool, doubt: bool, p: usize, owner: usize) -> bool
-    ensures { λ r. ⌜ r ≡ keepsAll calm ack doubt p owner ⌝ }
+// A seat that hears true in a calm slot, with its acknowledgement true and no doubt, has nothing to change.
+fn undisturbed(calm: bool, ack: bool, doubt: bool) -> bool
+    ensures { λ r. ⌜ r ≡ undisturbedBy calm ack doubt ⌝ }
 {
     if !calm {
         return false;
@@ -81,10 +81,21 @@ pub fn keeps_all(calm: bool, ack: bool, doubt: bool, p: usize, owner: usize) -> 
     if !ack {
         return false;
     }
-    if doubt {
+    !doubt
+}
+
+// Whether seat p, which has this set and these bits, is seen at once to keep all that it has: it is not the owner, and is
+// undisturbed or does not expect the owner.
+pub fn keeps_all(calm: bool, set: u32, ack: bool, doubt: bool, p: usize, owner: usize) -> bool
+    ensures { λ r. ⌜ r ≡ keepsAll calm set ack doubt p owner ⌝ }
+{
+    if p == owner {
         return false;
     }
-    p != owner
+    if undisturbed(calm, ack, doubt) {
+        return true;
+    }
+    !seats::has(set, owner)
 }
 
 // Whether p's receive mark takes hold, for a seat that expects the owner.

@@ -1,6 +1,6 @@
 -- Sets of seats put together: the machine's `or` of two masks, and the seats that pass a test. Assumes nothing.
 use mathlib.Core.Path.{_≡_, sym, ap, _∙_}
-use mathlib.Core.Bool.{Bool, true, false, _&&_, or-false, and-true}
+use mathlib.Core.Bool.{Bool, true, false, _&&_, or-false, and-true, _||_}
 use mathlib.Core.Logic.{⊎-elim}
 use Prim.Native.Nat.{ℕ, zero, suc, _+_, _-_, _*_, _/_, _%_, _^_, _<_, max}
 use native.Mathlib.Nat.{pow-suc, div-self, zero-div}

@@ -1,5 +1,5 @@
 -- Which marks a slot has, document 01: `S` and `R` at their time, and `D` from its time on.
-use mathlib.Core.Bool.{Bool, false, cond, not, _&&_}
+use mathlib.Core.Bool.{Bool, false, cond, not, _&&_, _||_}
 use Prim.Native.Nat.{ℕ, zero, suc, _%_, _^_}
 use lib.Dec.{leb, eqb}
 use Rattle.lists.specs.Counted.{sum}

@@ -1,6 +1,6 @@
 -- The bytes of a sheet: which may stand where, refusals 1 and 2, and numbers.
 use Prim.Native.Nat.{ℕ, suc, zero, _+_, _*_, _-_}
-use mathlib.Core.Bool.{Bool, cond, _&&_}
+use mathlib.Core.Bool.{Bool, cond, _&&_, _||_}
 use mathlib.Core.List.{List}
 use lib.ListN.{length, getD}
 use lib.Dec.{ltb, leb, eqb}

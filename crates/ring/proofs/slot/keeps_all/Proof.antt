@@ -1,20 +1,25 @@
--- `keeps_all`: four tests. Assumes nothing.
-use mathlib.Core.Bool.{true, false}
-use borrow.Author.Tests.{not-true, not-false}
+-- `keeps_all`: not the owner; then undisturbed, or not expecting it. Assumes nothing.
+use borrow.Author.Needs.{needs}
+use mathlib.Core.Path.{sym, ap, _∙_}
+use mathlib.Core.Bool.{not}
+use borrow.Author.Tests.{eq-eqb, ne-eqb}
 use Rattle.ring.proofs.slot.keeps_all.Statement.{statement}
 use Rattle.ring.proofs.slot.keeps_all.Tie as tie
 
 returns : tie.Need-returns
-returns c = rw (not-true (c .before .args .calm) (c .if1 .taken))
+returns c = rw (eq-eqb _ _ (c .if1 .taken))
+
+undisturbed-requires : tie.Need-undisturbed-requires
+undisturbed-requires c κs = search needs
 
 returns-2 : tie.Need-returns-2
-returns-2 c = rw (not-false (c .before .before .args .calm) (c .before .if1 .left), not-true (c .before .before .args .ack) (c .if2 .taken))
+returns-2 c = rw (ne-eqb _ _ (c .before .before .if1 .left), sym (c .before .undisturbed .ensures) ∙ c .if2 .taken)
+
+has-requires : tie.Need-has-requires
+has-requires c κs = search needs
 
 returns-3 : tie.Need-returns-3
-returns-3 c = rw (not-false (c .before .before .before .args .calm) (c .before .before .if1 .left), not-false (c .before .before .before .args .ack) (c .before .if2 .left), c .if3 .taken)
-
-returns-4 : tie.Need-returns-4
-returns-4 c = rw (not-false (c .before .before .before .args .calm) (c .before .before .if1 .left), not-false (c .before .before .before .args .ack) (c .before .if2 .left), c .if3 .left)
+returns-3 c = rw (ne-eqb _ _ (c .before .before .before .if1 .left), sym (c .before .before .undisturbed .ensures) ∙ c .before .if2 .left) (ap not (c .has .ensures))
 
 pub keeps-all-spec : {M : Type 1} → statement M
-keeps-all-spec = tie.close (tie.spec returns returns-2 returns-3 returns-4)
+keeps-all-spec = tie.close (tie.spec returns undisturbed-requires returns-2 has-requires returns-3)
