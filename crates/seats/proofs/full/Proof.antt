@@ -1,42 +1,30 @@
--- `full`: the table's rule, computed once for every entry. Assumes nothing.
+-- `full`: below 32 the power less one, else all 32 digits. Assumes nothing.
 use borrow.Author.Needs.{needs}
-use borrow.Author.Tests.{eqb-true}
-use mathlib.Core.Bool.{Bool}
-use mathlib.Core.List.{List, [], _∷_}
-use mathlib.Core.Path.{_≡_, refl, ap}
+use mathlib.Core.Path.{_≡_, sym, ap, _∙_}
 use native.Mathlib.Omega.{arith}
 use Prim.Native.Nat.{ℕ, _-_, _^_, min}
-use lib.Dec.{eqb}
-use lib.ListN.{getD}
-use Rattle.lists.proofs.Tests.{all-at}
-use Rattle.seats.specs.Sets.{fullSet}
+use lib.Pow.{pow-pos}
+use Rattle.seats.proofs.Machine.{one-shifted}
+use Rattle.seats.proofs.Sets.{full-is}
 use Rattle.seats.proofs.full.Statement.{statement}
 use Rattle.seats.proofs.full.Tie as tie
 
-fulls : List ℕ
-fulls =
-    0 ∷ 1 ∷ 3 ∷ 7 ∷ 15 ∷ 31 ∷ 63 ∷ 127
-    ∷ 255 ∷ 511 ∷ 1023 ∷ 2047 ∷ 4095 ∷ 8191 ∷ 16383 ∷ 32767
-    ∷ 65535 ∷ 131071 ∷ 262143 ∷ 524287 ∷ 1048575 ∷ 2097151 ∷ 4194303 ∷ 8388607
-    ∷ 16777215 ∷ 33554431 ∷ 67108863 ∷ 134217727 ∷ 268435455 ∷ 536870911 ∷ 1073741823 ∷ 2147483647
-    ∷ 4294967295
-    ∷ []
+cast-result : tie.Need-cast-result
+cast-result c = search needs
 
-right : ℕ → Bool
-right k = eqb (getD fulls k 0) (fullSet k)
+shl-result : tie.Need-shl-result
+shl-result c = search needs
 
-mul-result : tie.Need-mul-result
-mul-result c = search needs
-
-array-read-result : tie.Need-array-read-result
-array-read-result c = search needs
+sub-result : tie.Need-sub-result
+sub-result c = let n = c .before .args .n in omega (arith, one-shifted n (c .if1 .taken), pow-pos n)
 
 returns : tie.Need-returns
-unfolding fulls right
-returns c = let n = c .before .args .n in eqb-true (getD fulls n 0) (fullSet n) (all-at right 33 n refl (c .if1 .taken))
+returns c =
+    let n = c .before .args .n in
+    ap (λ (x : ℕ). x - 1) (one-shifted n (c .if1 .taken)) ∙ sym (full-is n (omega arith))
 
 returns-2 : tie.Need-returns-2
 returns-2 c = let e : 32 ≡ min (c .before .args .n) 32 = omega arith in ap (λ (x : ℕ). 2 ^ x - 1) e
 
 pub full-spec : {M : Type 1} → statement M
-full-spec = tie.close (tie.spec mul-result array-read-result returns returns-2)
+full-spec = tie.close (tie.spec cast-result shl-result sub-result returns returns-2)
