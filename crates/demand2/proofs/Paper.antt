@@ -21,6 +21,7 @@ use Rattle.ring.specs.Step.{slotOf, otherTurn, turnOf}
 use Rattle.ring.specs.Refusals.{told, stepTold}
 use Rattle.ring.specs.Promise.{StepPromise, ringOf, trailOf}
 use Rattle.ring.specs.declared.Ring.{Ring}
+use Rattle.ring.specs.declared.Answer.the-variants.{Taken}
 use Rattle.ring.specs.declared.Stepped.{Stepped}
 use Rattle.ring.specs.declared.slot.Seat.{Seat}
 use Rattle.ring.specs.declared.slot.Turn.{Turn}
@@ -279,3 +280,11 @@ doubts = (refl, refl, refl, refl, refl)
 stays : (toldOn quiet (stepOn quiet bench₂) ≡ done) × (membership (stepOn quiet bench₂ .ring) 1 1 ≡ false)
 unfolding bench₀ bench₂ missed quiet ringOf trailOf stepTold isRing everySeatStands freshRing zeroRing turnOf
 stays = (refl, refl)
+
+-- and that step as one that keeps the engine's promise, by a seat that expects the broadcaster
+kept : StepPromise (bench₂ .ring) false 0 (bench₂ .trail)
+    (record { answer = Taken; ring = ringOf (bench₂ .ring) false 0 (bench₂ .trail) })
+    (trailOf (bench₂ .ring) false 0 (bench₂ .trail))
+    × (membership (bench₂ .ring) 1 (broadcaster (bench₂ .ring)) ≡ true)
+unfolding bench₀ bench₂ missed quiet ringOf trailOf stepTold isRing everySeatStands freshRing zeroRing turnOf
+kept = (record { answer = refl; ring = refl; trail = refl }, refl)
