@@ -1,6 +1,6 @@
--- The checks of a step in their order, and the promise kept where it is refused and where it is taken. Assumes nothing.
-use mathlib.Core.Path.{_≡_, sym, _∙_}
-use mathlib.Core.Bool.{Bool, true, false, _&&_}
+-- The owner's slot, the checks of a step in their order, and the promise kept where it is refused and where it is taken. Assumes nothing.
+use mathlib.Core.Path.{_≡_, refl, sym, ap, _∙_}
+use mathlib.Core.Bool.{Bool, true, false, not, _&&_}
 use mathlib.Core.List.{List}
 use Prim.Native.Nat.{ℕ, _+_, _%_, _≤_, _<_}
 use native.Mathlib.Nat.{mod-lt}
@@ -11,7 +11,9 @@ use borrow.Author.Tests.{leb-true}
 use Rattle.limits.specs.Refusals.{numberOf, Told, done, refused}
 use Rattle.limits.specs.declared.Refusal.the-variants.{WrongMark, NoRoom, AtTheEnd, NotARing}
 use Rattle.lists.proofs.Tests.{and-true}
-use Rattle.ring.specs.Ring.{seatsStand, everySeatStands, isRing}
+use Rattle.ring.specs.Ring.{seatOf, ownerOf, seatsStand, everySeatStands, isRing}
+use Rattle.seats.specs.Sets.{hasSeat}
+use Rattle.ring.specs.Inside.{slotWith}
 use Rattle.ring.specs.Step.{slotOf, countIn, ringAfter, trailAfter}
 use Rattle.ring.specs.Trail.{roomFor}
 use Rattle.ring.specs.Refusals.{told, marksStand, stepTold}
@@ -38,6 +40,17 @@ checked r room e =
 -- the owner is a seat of the ring
 pub owner-low : (r : Ring) → 2 ≤ r .n → r .n ≤ 32 → r .time % r .n < 32
 owner-low r l h = omega (arith, mod-lt (r .time) {m = r .n} (omega arith))
+
+either-order : (a b : Bool) → (not b && a) ≡ (not (not a) && not b)
+either-order true true = refl
+either-order true false = refl
+either-order false true = refl
+either-order false false = refl
+
+-- the owner's set and acknowledgement are all that the slot takes from the seats
+pub slot-with : (r : Ring) (send : Bool) (receive : ℕ) → let b = ownerOf r in slotWith b (seatOf r b .set) (seatOf r b .ack) send receive (r .time) ≡ slotOf r send receive
+slot-with r send receive = let b = ownerOf r in
+    ap (λ (x : Bool). record { owner = b; speaks = x; bit = seatOf r b .ack; send = send; receive = receive; time = r .time }) (either-order (hasSeat (seatOf r b .set) b) send)
 
 module _ (r : Ring) (send : Bool) (receive bytes : ℕ) where
   pub no-ring : isRing r (roomFor bytes) ≡ false → stepTold r send receive bytes ≡ refused (numberOf NotARing) 0

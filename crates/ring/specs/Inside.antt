@@ -18,6 +18,15 @@ pub record Drawable (r : Ring) (c : Slot) : Type 0 where
   pub owner : c .owner < 32
   pub time : c .time < 65535
 
+-- an owner with this set speaks
+abbrev pub speaksIn : ℕ → ℕ → Bool → Bool
+speaksIn set owner send = not send && hasSeat set owner
+
+-- the slot of an owner with this set and this acknowledgement
+abbrev pub slotWith : ℕ → ℕ → Bool → Bool → ℕ → ℕ → Slot
+slotWith owner set ack send receive time =
+    record { owner = owner; speaks = speaksIn set owner send; bit = ack; send = send; receive = receive; time = time }
+
 -- a slot in which every seat that expects the owner hears true
 abbrev pub calmIn : Slot → Bool
 calmIn c = c .speaks && c .bit && eqb (c .receive) 0

@@ -1,22 +1,19 @@
 // What is a ring, and which receive marks stand: the checks that come before a step.
 ghost use mathlib.Core.Path.{_≡_};
-ghost use mathlib.Core.Bool.{_&&_};
-ghost use lib.Dec.{leb};
-ghost use Rattle.seats.specs.Sets.{fullSet};
-ghost use Rattle.ring.specs.Ring.{absentStands, seatStands, everySeatStands, isRing};
+ghost use Rattle.ring.specs.Ring.{memberStands, absentStands, seatStands, everySeatStands, isRing};
 ghost use Rattle.ring.specs.Refusals.{marksStand};
 use crate::Ring;
 use crate::slot::Seat;
 use crate::slot::Slot;
 
-// A seat that the ring has; `full` has every seat of the ring.
-fn member_stands(s: Seat, full: u32, time: u16) -> bool
-    ensures { λ r. ⌜ r ≡ (leb (s .set) full && leb (s .fault) time) ⌝ }
+// A seat that the ring has.
+fn member_stands(s: Seat, n: usize, time: u16) -> bool
+    ensures { λ r. ⌜ r ≡ memberStands n time s ⌝ }
 {
-    if full < s.set {
-        return false;
+    if seats::within(s.set, n) {
+        return s.fault <= time;
     }
-    s.fault <= time
+    false
 }
 
 // A seat that the ring does not have.
@@ -35,12 +32,11 @@ fn absent_stands(s: Seat) -> bool
     s.fault == 0
 }
 
-fn seat_stands(s: Seat, p: usize, n: usize, full: u32, time: u16) -> bool
-    requires { ⌜ full ≡ fullSet n ⌝ }
+fn seat_stands(s: Seat, p: usize, n: usize, time: u16) -> bool
     ensures { λ r. ⌜ r ≡ seatStands n time p s ⌝ }
 {
     if p < n {
-        return member_stands(s, full, time);
+        return member_stands(s, n, time);
     }
     absent_stands(s)
 }
@@ -51,7 +47,6 @@ fn every_seat_stands(ring: Ring) -> bool
 {
     let n = ring.n;
     let time = ring.time;
-    let full = seats::full(n);
     let mut p: usize = 0;
     while p < limits::SEATS_MOST {
         let set = ring.sets[p];
@@ -67,7 +62,6 @@ fn every_seat_stands(ring: Ring) -> bool
             },
             p,
             n,
-            full,
             time,
         ) {
             return false;
@@ -100,8 +94,8 @@ pub fn is_ring(ring: Ring, room: usize) -> bool
 pub fn marks_stand(slot: Slot, n: usize) -> bool
     ensures { λ r. ⌜ r ≡ marksStand n slot ⌝ }
 {
-    if seats::full(n) < slot.receive {
-        return false;
+    if seats::within(slot.receive, n) {
+        return !seats::has(slot.receive, slot.owner);
     }
-    !seats::has(slot.receive, slot.owner)
+    false
 }

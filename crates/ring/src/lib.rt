@@ -1,4 +1,6 @@
 // The membership engine: a ring of modules, stepped slot by slot, with its trail and its verdict.
+ghost use mathlib.Core.Path.{_≡_};
+ghost use Rattle.ring.specs.declared.Answer.the-variants.{Taken, Refused};
 ghost use Rattle.ring.specs.Promise.{ZeroPromise, FreshPromise, StepPromise, VerdictPromise};
 use limits::Refusal;
 
@@ -44,6 +46,24 @@ pub struct Judged {
     pub ring: Ring,
 }
 
+fn refused(why: Refusal, place: u16, ring: Ring) -> Stepped
+    ensures { λ s. ⌜ s ≡ record { answer = Refused why place; ring = ring } ⌝ }
+{
+    Stepped {
+        answer: Answer::Refused(why, place),
+        ring,
+    }
+}
+
+fn taken(ring: Ring) -> Stepped
+    ensures { λ s. ⌜ s ≡ record { answer = Taken; ring = ring } ⌝ }
+{
+    Stepped {
+        answer: Answer::Taken,
+        ring,
+    }
+}
+
 impl Ring {
     // No ring: no seats, every set empty, every bit false, no first fault.
     pub fn zero() -> Ring
@@ -57,67 +77,50 @@ impl Ring {
         ensures { λ s. ⌜ FreshPromise n s ⌝ }
     {
         if n < limits::SEATS_LEAST {
-            return Stepped {
-                answer: Answer::Refused(Refusal::NotARing, 0),
-                ring: start::zero_ring(),
-            };
+            return refused(Refusal::NotARing, 0, start::zero_ring());
         }
         if limits::SEATS_MOST < n {
-            return Stepped {
-                answer: Answer::Refused(Refusal::NotARing, 0),
-                ring: start::zero_ring(),
-            };
+            return refused(Refusal::NotARing, 0, start::zero_ring());
         }
-        Stepped {
-            answer: Answer::Taken,
-            ring: start::fresh_ring(n),
-        }
+        taken(start::fresh_ring(n))
     }
 
     // One slot: the owner's send mark, the seats with a receive mark, and the trail that takes the records.
-    // The records are counted before any is written, so that a step without room leaves no trace.
+    // The records are counted before any is written, so that a step without room leaves no trace. Most steps remove
+    // nobody, and then no seat is looked at again.
     pub fn step(self, send: bool, receive: u32, trail: &mut [u8]) -> Stepped
         ensures { λ s. ⌜ StepPromise self send receive (now (trail .entry)) s (now (trail .exit)) ⌝ }
     {
         let room = record::room_for(trail.len());
         let time = self.time;
         if !check::is_ring(self, room) {
-            return Stepped {
-                answer: Answer::Refused(Refusal::NotARing, 0),
-                ring: self,
-            };
+            return refused(Refusal::NotARing, 0, self);
         }
         let n = self.n;
-        let slot = slot::slot_for(self, send, receive, (time as usize) % n);
+        let owner = (time as usize) % n;
+        let set = self.sets[owner];
+        let ack = self.acks[owner];
+        let slot = slot::slot_for(owner, set, ack, send, receive, time);
         if !check::marks_stand(slot, n) {
-            return Stepped {
-                answer: Answer::Refused(Refusal::WrongMark, time),
-                ring: self,
-            };
+            return refused(Refusal::WrongMark, time, self);
         }
         if time == limits::SLOTS_MOST {
-            return Stepped {
-                answer: Answer::Refused(Refusal::AtTheEnd, time),
-                ring: self,
-            };
+            return refused(Refusal::AtTheEnd, time, self);
         }
         let drawn = draw::draw(self, slot);
         let records = self.records as usize;
         let total = records + drawn.count;
         if room < total {
-            return Stepped {
-                answer: Answer::Refused(Refusal::NoRoom, time),
-                ring: self,
-            };
+            return refused(Refusal::NoRoom, time, self);
         }
-        draw::write(self, slot, trail, records, drawn.count);
         let mut next = drawn.ring;
         next.time = time + 1;
         next.records = total as u16;
-        Stepped {
-            answer: Answer::Taken,
-            ring: next,
+        if drawn.count == 0 {
+            return taken(next);
         }
+        draw::write(self, slot, trail, records);
+        taken(next)
     }
 
     // Whether the fault terms hold up to the last step taken.

@@ -1,9 +1,8 @@
 // One slot, and what one seat makes of it from its own set, bits and first fault.
 ghost use mathlib.Core.Path.{_≡_};
 ghost use Prim.Native.Nat.{_<_, _≤_};
-ghost use Rattle.ring.specs.Inside.{calmIn, undisturbedBy, keepsAll};
-ghost use Rattle.ring.specs.Step.{slotFor, misses, viewOf, faultAfter, ownerTurn, otherTurn, turnOf};
-use crate::Ring;
+ghost use Rattle.ring.specs.Inside.{speaksIn, slotWith, calmIn, undisturbedBy, keepsAll};
+ghost use Rattle.ring.specs.Step.{misses, viewOf, faultAfter, ownerTurn, otherTurn, turnOf};
 use crate::table::Removal;
 use crate::table::View;
 
@@ -31,26 +30,24 @@ pub struct Turn {
     pub removal: Removal,
 }
 
-// The slot of owner b: it speaks if it is in its own set and has no send mark.
-pub fn slot_for(ring: Ring, send: bool, receive: u32, b: usize) -> Slot
-    requires { ⌜ b < 32 ⌝ }
-    ensures { λ c. ⌜ c ≡ slotFor ring send receive b ⌝ }
+// Whether an owner with this set speaks: it is in its own set and has no send mark.
+fn speaks_in(set: u32, owner: usize, send: bool) -> bool
+    ensures { λ r. ⌜ r ≡ speaksIn set owner send ⌝ }
 {
-    let time = ring.time;
-    let bit = ring.acks[b];
-    if seats::has(ring.sets[b], b) {
-        return Slot {
-            owner: b,
-            speaks: !send,
-            bit,
-            send,
-            receive,
-            time,
-        };
+    if send {
+        return false;
     }
+    seats::has(set, owner)
+}
+
+// The slot of an owner with this set and this acknowledgement: all of the ring that a slot has to know.
+pub fn slot_for(owner: usize, set: u32, bit: bool, send: bool, receive: u32, time: u16) -> Slot
+    ensures { λ c. ⌜ c ≡ slotWith owner set bit send receive time ⌝ }
+{
+    let speaks = speaks_in(set, owner, send);
     Slot {
-        owner: b,
-        speaks: false,
+        owner,
+        speaks,
         bit,
         send,
         receive,

@@ -2,23 +2,45 @@
 use mathlib.Core.Path.{_≡_, sym, ap, ap₂, _∙_}
 use mathlib.Core.Bool.{true, false}
 use mathlib.Core.Logic.{⊎-elim}
-use Prim.Native.Nat.{ℕ, zero, suc, _+_, _-_, _*_, _/_, _%_, _^_, _<_, min}
-use native.Mathlib.Nat.{pow-suc, mod-eq-of-lt}
+use Prim.Native.Nat.{ℕ, zero, suc, _+_, _-_, _*_, _/_, _%_, _^_, _≤_, _<_, min}
+use native.Mathlib.Nat.{pow-suc, mod-eq-of-lt, div-eq-of-lt, div-eq-sub-div}
 use native.Mathlib.Omega.{arith}
-use lib.Dec.{eqb}
+use lib.Dec.{eqb, leb}
 use lib.Arith.{lt-one}
-use lib.Pow.{pow-pos, pow-lt, shl-exact}
+use lib.Pow.{pow-pos, pow-lt, pow-mono, shl-exact}
 use lib.Bits.{bitAnd, and-step, and-mask}
 use lib.Count.{ones, onesIn, ones-step}
-use borrow.Author.Tests.{eqb-true, eqb-false}
+use borrow.Author.Tests.{eqb-true, eqb-false, eq-eqb, ne-eqb, leb-true, leb-false}
 use Rattle.lists.proofs.Tests.{both}
-use Rattle.seats.specs.Sets.{hasSeat, withoutSeat}
+use Rattle.seats.specs.Sets.{hasSeat, withoutSeat, fullSet}
 use Rattle.seats.proofs.Digits.{digit-zero, digit-suc, digit-le, half-less, odd-less}
-use Rattle.seats.proofs.Sets.{without-is, without-none}
+use Rattle.seats.proofs.Sets.{without-is, without-none, full-is}
 
 -- 1 shifted by less than the width is the power
 pub one-shifted : (j : ℕ) → j < 32 → (1 * 2 ^ j) % 2 ^ 32 ≡ 2 ^ j
 one-shifted j h = shl-exact 1 j 32 (omega arith) (omega arith) ∙ omega arith
+
+-- a mask that is more than the full set has a seat n or above
+reaches : (s n : ℕ) → s < 2 ^ 32 → fullSet n < s → 2 ^ n ≤ s
+reaches s n h l =
+    ⊎-elim
+    (λ e. let m = leb-true n 32 e in let f = full-is n m in omega arith)
+    (λ e. let m = leb-false n 32 e in let f : min n 32 ≡ 32 = omega arith in absurd (omega (arith, ap (λ (x : ℕ). 2 ^ x - 1) f)))
+    (both (leb n 32))
+
+-- a shift by n leaves nothing of a mask within the first n seats
+pub within-is : (s n : ℕ) → s < 2 ^ 32 → eqb (s / 2 ^ n) 0 ≡ leb s (fullSet n)
+within-is s n h =
+    ⊎-elim
+    (λ e. let l = leb-true s (fullSet n) e in
+    let p = pow-pos (min n 32) in
+    let m = pow-mono {i = min n 32} {j = n} (omega arith) in
+    eq-eqb (s / 2 ^ n) 0 (div-eq-of-lt (omega arith)) ∙ sym e)
+    (λ e. let l = leb-false s (fullSet n) e in
+    let p = pow-pos n in
+    let d = div-eq-sub-div {m = 2 ^ n} {n = s} p (reaches s n h l) in
+    ne-eqb (s / 2 ^ n) 0 (omega arith) ∙ sym e)
+    (both (leb s (fullSet n)))
 
 -- the count of a number's digits is the count of k of them
 pub ones-in : (k s : ℕ) → s < 2 ^ k → ones s ≡ onesIn k s

@@ -1,5 +1,6 @@
 // Sets of seats: seat j of 0 to 31 is in the set where binary digit j of the mask is 1.
 ghost use mathlib.Core.Path.{_≡_};
+ghost use lib.Dec.{leb};
 ghost use Rattle.seats.specs.Sets.{hasSeat, withoutSeat, fullSet, sizeOf};
 
 // Is seat j in the set?
@@ -21,6 +22,17 @@ pub fn full(n: usize) -> u32
     ensures { λ r. ⌜ r ≡ fullSet n ⌝ }
 {
     if n < 32 { (1 << n) - 1 } else { 0xffff_ffff }
+}
+
+// Is no seat n or above in the set? The mask is widened, so that a shift by 32 is one like any other.
+pub fn within(set: u32, n: usize) -> bool
+    ensures { λ r. ⌜ r ≡ leb set (fullSet n) ⌝ }
+{
+    if n < 64 {
+        ((set as u64) >> n) == 0
+    } else {
+        true
+    }
 }
 
 // How many seats are in the set.

@@ -16,17 +16,14 @@ abbrev stands : Ring → ℕ → Bool
 stands r p = seatStands (r .n) (r .time) p (seatOf r p)
 
 abbrev Inv-loop : tie.InvT-loop
-Inv-loop ring n time full p₀ p = (p ≤ 32) × (allBelow p (stands ring) ≡ true)
+Inv-loop ring n time p₀ p = (p ≤ 32) × (allBelow p (stands ring) ≡ true)
 
 abbrev μ-loop : tie.MeasureT-loop
-μ-loop ring n time full p₀ p = 32 - p
+μ-loop ring n time p₀ p = 32 - p
 
-seen : (c : tie.After-seat-stands Inv-loop μ-loop) → let at = c .before .before .before .before .before .before in c .seat-stands .result ≡ stands (at .before .before .args .t1) (at .loop .p)
+seen : (c : tie.After-seat-stands Inv-loop μ-loop) → let at = c .before .before .before .before .before .before in c .seat-stands .result ≡ stands (at .before .args .t1) (at .loop .p)
 seen c =
     c .seat-stands .ensures
-
-full-requires : tie.Need-full-requires Inv-loop μ-loop
-full-requires c κs = search needs
 
 loop-holds : tie.Need-loop-holds Inv-loop μ-loop
 loop-holds c = (search needs, refl)
@@ -50,12 +47,12 @@ element-copy-out-fault : tie.Need-element-copy-out-fault Inv-loop μ-loop
 element-copy-out-fault c = search needs
 
 seat-stands-requires : tie.Need-seat-stands-requires Inv-loop μ-loop
-seat-stands-requires c κs = c .before .before .before .before .before .before .full .ensures
+seat-stands-requires c κs = search needs
 
 returns : tie.Need-returns Inv-loop μ-loop
 unfolding everySeatStands
 returns c = let at = c .before .before .before .before .before .before .before in
-    sym (all-fails (stands (at .before .before .args .t1)) 32 (at .loop .p) (c .before .before .before .before .before .before .loop-test .taken) (sym (seen (c .before)) ∙ not-true _ (c .if1 .taken)))
+    sym (all-fails (stands (at .before .args .t1)) 32 (at .loop .p) (c .before .before .before .before .before .before .loop-test .taken) (sym (seen (c .before)) ∙ not-true _ (c .if1 .taken)))
 
 add-p : tie.Need-add-p Inv-loop μ-loop
 add-p c = search needs
@@ -65,13 +62,13 @@ loop-less c = search needs
 
 loop-again : tie.Need-loop-again Inv-loop μ-loop
 loop-again c = let at = c .before .before .before .before .before .before .before in
-    (search needs, all-more (stands (at .before .before .args .t1)) (at .loop .p) (at .loop .inv .1) (sym (seen (c .before)) ∙ not-false _ (c .if1 .left)))
+    (search needs, all-more (stands (at .before .args .t1)) (at .loop .p) (at .loop .inv .1) (sym (seen (c .before)) ∙ not-false _ (c .if1 .left)))
 
 returns-2 : tie.Need-returns-2 Inv-loop μ-loop
 unfolding everySeatStands
 returns-2 c = let at = c .before in
     let e : at .loop .p ≡ 32 = omega arith in
-    sym (ap (λ (x : ℕ). allBelow x (stands (at .before .before .args .t1))) (sym e) ∙ at .loop .inv .1)
+    sym (ap (λ (x : ℕ). allBelow x (stands (at .before .args .t1))) (sym e) ∙ at .loop .inv .1)
 
 pub every-seat-stands-spec : {M : Type 1} → statement M
 every-seat-stands-spec =
@@ -79,7 +76,6 @@ every-seat-stands-spec =
     (tie.spec
     Inv-loop
     μ-loop
-    full-requires
     loop-holds
     mul-set
     element-copy-out-set

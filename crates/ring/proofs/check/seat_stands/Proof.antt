@@ -1,9 +1,5 @@
 -- `seat_stands`: by whether the ring has the seat. Assumes nothing.
 use borrow.Author.Needs.{needs}
-use mathlib.Core.Path.{ap, _∙_}
-use mathlib.Core.Bool.{_&&_}
-use Prim.Native.Nat.{ℕ}
-use lib.Dec.{leb}
 use borrow.Author.Tests.{lt-ltb, le-ltb}
 use Rattle.ring.proofs.check.seat_stands.Statement.{statement}
 use Rattle.ring.proofs.check.seat_stands.Tie as tie
@@ -12,9 +8,7 @@ member-stands-requires : tie.Need-member-stands-requires
 member-stands-requires c κs = search needs
 
 returns : tie.Need-returns
-returns c = let b = c .before .before in
-    let a = b .args in
-    rw (lt-ltb _ _ (c .before .if1 .taken)) (c .member-stands .ensures ∙ ap (λ (x : ℕ). leb (a .s .set) x && leb (a .s .fault) (a .time)) (b .pre))
+returns c = rw (lt-ltb _ _ (c .before .if1 .taken)) (c .member-stands .ensures)
 
 absent-stands-requires : tie.Need-absent-stands-requires
 absent-stands-requires c κs = search needs
