@@ -98,8 +98,10 @@ impl Ring {
         }
         let n = self.n;
         let owner = (time as usize) % n;
-        let set = self.sets[owner];
-        let ack = self.acks[owner];
+        let sets = self.sets;
+        let set = sets[owner];
+        let acks = self.acks;
+        let ack = acks[owner];
         let slot = slot::slot_for(owner, set, ack, send, receive, time);
         if !check::marks_stand(slot, n) {
             return refused(Refusal::WrongMark, time, self);

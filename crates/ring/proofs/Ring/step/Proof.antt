@@ -24,34 +24,34 @@ use Rattle.ring.proofs.Refusing.{Checked, checked, owner-low, slot-with
 use Rattle.ring.proofs.Ring.step.Statement.{statement}
 use Rattle.ring.proofs.Ring.step.Tie as tie
 
-told-ring : (c : tie.After-is-ring) → let a = c .before .before .before .args in c .is-ring .result ≡ isRing (a .t1) (roomFor (length (a .trail .now)))
-told-ring c = c .is-ring .ensures ∙ ap (isRing (c .before .before .before .args .t1)) (c .before .room-for .ensures)
+told-ring : (c : tie.After-is-ring) → let a = c .before .before .before .args in c .is-ring .result ≡ isRing (a .self) (roomFor (length (a .trail .now)))
+told-ring c = c .is-ring .ensures ∙ ap (isRing (c .before .before .before .args .self)) (c .before .room-for .ensures)
 
-is-ring : (c : tie.Else1) → let a = c .before .before .before .before .args in isRing (a .t1) (roomFor (length (a .trail .now))) ≡ true
+is-ring : (c : tie.Else1) → let a = c .before .before .before .before .args in isRing (a .self) (roomFor (length (a .trail .now))) ≡ true
 is-ring c = sym (told-ring (c .before)) ∙ not-false _ (c .if1 .left)
 
-parts : (c : tie.Else1) → let a = c .before .before .before .before .args in Checked (a .t1) (roomFor (length (a .trail .now)))
+parts : (c : tie.Else1) → let a = c .before .before .before .before .args in Checked (a .self) (roomFor (length (a .trail .now)))
 parts c = checked _ _ (is-ring c)
 
 room-is : (c : tie.Else1) → c .before .before .room-for .result ≡ roomFor (length (c .before .before .before .before .args .trail .now))
 room-is c = c .before .before .room-for .ensures
 
-owner-is : (c : tie.Else1) → let a = c .before .before .before .before .args in a .t1 .time % a .t1 .n < 32
-owner-is c = let p = parts c in owner-low (c .before .before .before .before .args .t1) (p .least) (p .most)
+owner-is : (c : tie.Else1) → let a = c .before .before .before .before .args in a .self .time % a .self .n < 32
+owner-is c = let p = parts c in owner-low (c .before .before .before .before .args .self) (p .least) (p .most)
 
 slot-is : (c : tie.After-slot-for) → let a = c .before .before .before .before .before .before .before .args in
-    c .slot-for .result ≡ slotOf (a .t1) (a .send) (a .receive)
-slot-is c = let a = c .before .before .before .before .before .before .before .args in c .slot-for .ensures ∙ slot-with (a .t1) (a .send) (a .receive)
+    c .slot-for .result ≡ slotOf (a .self) (a .send) (a .receive)
+slot-is c = let a = c .before .before .before .before .before .before .before .args in c .slot-for .ensures ∙ slot-with (a .self) (a .send) (a .receive)
 
 told-marks : (c : tie.After-marks-stand) → let a = c .before .before .before .before .before .before .before .before .args in
-    c .marks-stand .result ≡ marksStand (a .t1 .n) (slotOf (a .t1) (a .send) (a .receive))
+    c .marks-stand .result ≡ marksStand (a .self .n) (slotOf (a .self) (a .send) (a .receive))
 told-marks c = c .marks-stand .ensures ∙ ap (marksStand _) (slot-is (c .before))
 
 marks : (c : tie.Else2) → let a = c .before .before .before .before .before .before .before .before .before .args in
-    marksStand (a .t1 .n) (slotOf (a .t1) (a .send) (a .receive)) ≡ true
+    marksStand (a .self .n) (slotOf (a .self) (a .send) (a .receive)) ≡ true
 marks c = sym (told-marks (c .before)) ∙ not-false _ (c .if2 .left)
 
-drawable : (c : tie.Else3) → let s = c .before .before .before in Drawable (s .before .before .before .before .before .before .before .args .t1) (s .slot-for .result)
+drawable : (c : tie.Else3) → let s = c .before .before .before in Drawable (s .before .before .before .before .before .before .before .args .self) (s .slot-for .result)
 drawable c =
     let s = c .before .before .before in
     let g = s .before .before .before in
@@ -61,26 +61,26 @@ drawable c =
     record { seats = p .most; owner = omega (arith, owner-is g); time = omega (arith, p .soon) }
 
 drawn : (c : tie.After-draw) → let a = c .before .before .before .before .before .before .before .before .before .before .before .args in
-    c .draw .result ≡ drawnOf (a .t1) (slotOf (a .t1) (a .send) (a .receive)) (a .t1 .n)
+    c .draw .result ≡ drawnOf (a .self) (slotOf (a .self) (a .send) (a .receive)) (a .self .n)
 drawn c =
     let s = c .before .before .before .before in
     let a = s .before .before .before .before .before .before .before .args in
-    c .draw .ensures ∙ ap (λ (x : Slot). drawnOf (a .t1) x (a .t1 .n)) (slot-is s)
+    c .draw .ensures ∙ ap (λ (x : Slot). drawnOf (a .self) x (a .self .n)) (slot-is s)
 
 drawn-count : (c : tie.After-draw) → let a = c .before .before .before .before .before .before .before .before .before .before .before .args in
-    c .draw .result .count ≡ countIn (a .t1) (slotOf (a .t1) (a .send) (a .receive))
+    c .draw .result .count ≡ countIn (a .self) (slotOf (a .self) (a .send) (a .receive))
 drawn-count c = ap (λ (x : Drawn). x .count) (drawn c)
 
 -- with room for its records the step is taken
-stands : (c : tie.Else4) → let a = c .before .before .before .before .before .before .before .before .before .before .before .before .before .args in
-    stepTold (a .t1) (a .send) (a .receive) (length (a .trail .now)) ≡ done
+stands : (c : tie.Else4) → let a = c .before .before .before .before .before .before .before .before .before .before .before .before .before .before .args in
+    stepTold (a .self) (a .send) (a .receive) (length (a .trail .now)) ≡ done
 stands c =
-    let d = c .before .before in
+    let d = c .before .before .before in
     let e = d .before .before in
     let g = e .before .before .before .before .before in
     let a = g .before .before .before .before .args in
-    all-checked (a .t1) (a .send) (a .receive) (length (a .trail .now)) (is-ring g) (marks e) (ne-eqb (a .t1 .time) 4096 (d .before .if3 .left))
-    (le-leb (a .t1 .records + countIn (a .t1) (slotOf (a .t1) (a .send) (a .receive))) (roomFor (length (a .trail .now))) (omega (arith, c .if4 .left, drawn-count d, room-is g)))
+    all-checked (a .self) (a .send) (a .receive) (length (a .trail .now)) (is-ring g) (marks e) (ne-eqb (a .self .time) 4096 (d .before .if3 .left))
+    (le-leb (a .self .records + countIn (a .self) (slotOf (a .self) (a .send) (a .receive))) (roomFor (length (a .trail .now))) (omega (arith, c .if4 .left, drawn-count d, room-is g)))
 
 room-for-requires : tie.Need-room-for-requires
 room-for-requires c κs = search needs
@@ -95,7 +95,7 @@ returns : tie.Need-returns
 returns c = let r = c .before .before in
     let a = r .before .before .before .args in
     rw (c .refused .ensures)
-    (refuse (a .t1) (a .send) (a .receive) (a .trail .now) (Refused NotARing 0) 10 0 refl (no-ring (a .t1) (a .send) (a .receive) (length (a .trail .now)) (sym (told-ring r) ∙ not-true _ (c .before .if1 .taken))))
+    (refuse (a .self) (a .send) (a .receive) (a .trail .now) (Refused NotARing 0) 10 0 refl (no-ring (a .self) (a .send) (a .receive) (length (a .trail .now)) (sym (told-ring r) ∙ not-true _ (c .before .if1 .taken))))
 
 cast-owner : tie.Need-cast-owner
 cast-owner c = search needs
@@ -104,13 +104,13 @@ rem-owner : tie.Need-rem-owner
 rem-owner c = omega (arith, parts c .least)
 
 mul-set : tie.Need-mul-set
-mul-set c = omega (arith, owner-is c)
+mul-set c = omega (arith, owner-is (c .before))
 
-element-copy-out-set : tie.Need-element-copy-out-set
-element-copy-out-set c = owner-is c
+array-read-set : tie.Need-array-read-set
+array-read-set c = owner-is (c .before)
 
-element-copy-out-ack : tie.Need-element-copy-out-ack
-element-copy-out-ack c = owner-is (c .before)
+array-read-ack : tie.Need-array-read-ack
+array-read-ack c = owner-is (c .before .before)
 
 slot-for-requires : tie.Need-slot-for-requires
 slot-for-requires c κs = search needs
@@ -126,8 +126,8 @@ returns-2 c = let m = c .before .before in
     let g = m .before .before .before .before in
     let a = g .before .before .before .before .args in
     rw (c .refused2 .ensures)
-    (refuse (a .t1) (a .send) (a .receive) (a .trail .now) (Refused WrongMark (a .t1 .time)) 6 (a .t1 .time) refl
-    (wrong-mark (a .t1) (a .send) (a .receive) (length (a .trail .now)) (is-ring g) (sym (told-marks m) ∙ not-true _ (c .before .if2 .taken))))
+    (refuse (a .self) (a .send) (a .receive) (a .trail .now) (Refused WrongMark (a .self .time)) 6 (a .self .time) refl
+    (wrong-mark (a .self) (a .send) (a .receive) (length (a .trail .now)) (is-ring g) (sym (told-marks m) ∙ not-true _ (c .before .if2 .taken))))
 
 refused-requires-3 : tie.Need-refused-requires-3
 refused-requires-3 c κs = search needs
@@ -137,37 +137,37 @@ returns-3 c = let e = c .before .before in
     let g = e .before .before .before .before .before in
     let a = g .before .before .before .before .args in
     rw (c .refused3 .ensures)
-    (refuse (a .t1) (a .send) (a .receive) (a .trail .now) (Refused AtTheEnd (a .t1 .time)) 9 4096 (ap (refused 9) (c .before .if3 .taken))
-    (at-the-end (a .t1) (a .send) (a .receive) (length (a .trail .now)) (is-ring g) (marks e) (eq-eqb (a .t1 .time) 4096 (c .before .if3 .taken))))
+    (refuse (a .self) (a .send) (a .receive) (a .trail .now) (Refused AtTheEnd (a .self .time)) 9 4096 (ap (refused 9) (c .before .if3 .taken))
+    (at-the-end (a .self) (a .send) (a .receive) (length (a .trail .now)) (is-ring g) (marks e) (eq-eqb (a .self .time) 4096 (c .before .if3 .taken))))
 
 draw-requires : tie.Need-draw-requires
 draw-requires c κs = drawable c
 
 cast-records : tie.Need-cast-records
-cast-records c = let p = parts (c .before .before .before .before .before .before .before) in omega (arith, p .kept)
+cast-records c = search needs
 
 add-total : tie.Need-add-total
-add-total c = let d = c .before in
+add-total c = let d = c .before .before in
     let g = d .before .before .before .before .before .before .before in
     let a = g .before .before .before .before .args in
     let p = parts g in
-    omega (arith, p .kept, p .most, drawn-count d, counts-few (a .t1) (slotOf (a .t1) (a .send) (a .receive)) (a .t1 .n))
+    omega (arith, p .kept, p .most, drawn-count d, counts-few (a .self) (slotOf (a .self) (a .send) (a .receive)) (a .self .n))
 
 refused-requires-4 : tie.Need-refused-requires-4
 refused-requires-4 c κs = search needs
 
 returns-4 : tie.Need-returns-4
-returns-4 c = let d = c .before .before .before in
+returns-4 c = let d = c .before .before .before .before in
     let e = d .before .before in
     let g = e .before .before .before .before .before in
     let a = g .before .before .before .before .args in
     rw (c .refused4 .ensures)
-    (refuse (a .t1) (a .send) (a .receive) (a .trail .now) (Refused NoRoom (a .t1 .time)) 8 (a .t1 .time) refl
-    (no-room (a .t1) (a .send) (a .receive) (length (a .trail .now)) (is-ring g) (marks e) (ne-eqb (a .t1 .time) 4096 (d .before .if3 .left))
-    (lt-leb (a .t1 .records + countIn (a .t1) (slotOf (a .t1) (a .send) (a .receive))) (roomFor (length (a .trail .now))) (omega (arith, c .before .if4 .taken, drawn-count d, room-is g)))))
+    (refuse (a .self) (a .send) (a .receive) (a .trail .now) (Refused NoRoom (a .self .time)) 8 (a .self .time) refl
+    (no-room (a .self) (a .send) (a .receive) (length (a .trail .now)) (is-ring g) (marks e) (ne-eqb (a .self .time) 4096 (d .before .if3 .left))
+    (lt-leb (a .self .records + countIn (a .self) (slotOf (a .self) (a .send) (a .receive))) (roomFor (length (a .trail .now))) (omega (arith, c .before .if4 .taken, drawn-count d, room-is g)))))
 
 add-next : tie.Need-add-next
-add-next c = let d = c .before .before .before in
+add-next c = let d = c .before .before .before .before in
     omega (arith, parts (d .before .before .before .before .before .before .before) .soon)
 
 cast-next : tie.Need-cast-next
@@ -178,16 +178,16 @@ taken-requires c κs = search needs
 
 returns-5 : tie.Need-returns-5
 returns-5 c = let f = c .before .before .before .before in
-    let d = f .before .before in
+    let d = f .before .before .before in
     let a = d .before .before .before .before .before .before .before .before .before .before .before .args in
     rw (c .taken .ensures)
-    (take (a .t1) (a .send) (a .receive) (a .trail .now) Taken refl (stands f)
-    (ap (λ (x : Drawn). withCounts (x .ring) (x .ring .n) (a .t1 .time + 1) (a .t1 .records + x .count)) (drawn d))
-    (sym (write-none (a .t1) (slotOf (a .t1) (a .send) (a .receive)) (a .trail .now) (width * a .t1 .records) (sym (drawn-count d) ∙ c .before .if5 .taken))))
+    (take (a .self) (a .send) (a .receive) (a .trail .now) Taken refl (stands f)
+    (ap (λ (x : Drawn). withCounts (x .ring) (x .ring .n) (a .self .time + 1) (a .self .records + x .count)) (drawn d))
+    (sym (write-none (a .self) (slotOf (a .self) (a .send) (a .receive)) (a .trail .now) (width * a .self .records) (sym (drawn-count d) ∙ c .before .if5 .taken))))
 
 write-requires : tie.Need-write-requires
 write-requires c κs = let f = c .before .before .before .before in
-    let d = f .before .before in
+    let d = f .before .before .before in
     let e = d .before .before in
     let g = e .before .before .before .before .before in
     (drawable (d .before), omega (arith, f .if4 .left, room-is g, ap (λ (x : Drawn). x .count) (d .draw .ensures)))
@@ -201,13 +201,13 @@ same-length c = search needs
 returns-6 : tie.Need-returns-6
 returns-6 c = let w = c .before .before .before in
     let f = w .before .before .before .before .before in
-    let d = f .before .before in
+    let d = f .before .before .before in
     let s = d .before .before .before .before in
     let a = s .before .before .before .before .before .before .before .args in
     rw (c .taken2 .ensures)
-    (take (a .t1) (a .send) (a .receive) (a .trail .now) Taken refl (stands f)
-    (ap (λ (x : Drawn). withCounts (x .ring) (x .ring .n) (a .t1 .time + 1) (a .t1 .records + x .count)) (drawn d))
-    (w .write .ensures ∙ ap (λ (x : Slot). put (a .trail .now) (width * a .t1 .records) (joined (a .t1 .n) (recordsAt (a .t1) x))) (slot-is s)))
+    (take (a .self) (a .send) (a .receive) (a .trail .now) Taken refl (stands f)
+    (ap (λ (x : Drawn). withCounts (x .ring) (x .ring .n) (a .self .time + 1) (a .self .records + x .count)) (drawn d))
+    (w .write .ensures ∙ ap (λ (x : Slot). put (a .trail .now) (width * a .self .records) (joined (a .self .n) (recordsAt (a .self) x))) (slot-is s)))
 
 pub step-spec : {M : Type 1} → statement M
 step-spec =
@@ -220,8 +220,8 @@ step-spec =
     cast-owner
     rem-owner
     mul-set
-    element-copy-out-set
-    element-copy-out-ack
+    array-read-set
+    array-read-ack
     slot-for-requires
     marks-stand-requires
     refused-requires-2
