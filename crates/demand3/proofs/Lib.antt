@@ -1,3 +1,4 @@
+-- The files that prove demand 3.
 pub mod Slots
 pub mod Found
 pub mod Seat

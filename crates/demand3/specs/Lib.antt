@@ -1,3 +1,4 @@
+-- The files that state demand 3 and how tight it is; `Model` alone serves the proofs.
 pub mod Faults
 pub mod Demand
 pub mod Verdict

@@ -1,1 +1,2 @@
+-- The files of laws on the definitions of `limits`.
 pub mod Refusals

@@ -1,3 +1,4 @@
+-- The files of laws on the definitions of `lists`.
 pub mod Counted
 pub mod Tests
 pub mod Put

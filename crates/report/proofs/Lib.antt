@@ -1,3 +1,4 @@
+-- The files of laws that the proofs of `page` cite, and the theorems on every page.
 pub mod Decimals
 pub mod Example
 pub mod LineLaws

@@ -1,3 +1,4 @@
+-- The files of laws that the engine's own proofs cite, and the theorem that no two results keep one promise.
 pub mod Calm
 pub mod Drawing
 pub mod Judging

@@ -1,3 +1,4 @@
+-- The files of definitions of the engine, each resting on those above it: `Promise` is what the public functions promise.
 pub mod Ring
 pub mod Table
 pub mod Trail

@@ -1,3 +1,4 @@
+-- The files of laws that the proofs of `run` cite, and the theorems on every run.
 pub mod Any
 pub mod Joined
 pub mod Gathering

@@ -1,3 +1,4 @@
+-- The files of laws on sets of seats, which the functions' own proofs cite.
 pub mod Digits
 pub mod Machine
 pub mod Sets

@@ -1,1 +1,2 @@
+-- The files of definitions of sets of seats.
 pub mod Sets

@@ -1,3 +1,4 @@
+-- The files of laws that the reader's own proofs cite, and the theorems on every sheet.
 pub mod ByteLaws
 pub mod NumberLaws
 pub mod LineLaws

@@ -1,3 +1,4 @@
+-- The files of definitions of run sheets, each resting on those above it: `Sheets` has what `read` promises.
 pub mod Found
 pub mod Bytes
 pub mod Lines

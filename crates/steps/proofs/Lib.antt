@@ -1,3 +1,4 @@
+-- The files of laws of a step, which the theorems share.
 pub mod Valid
 pub mod Drawn
 pub mod Turn
