@@ -1,7 +1,7 @@
 -- Laws of the lists and sums of specs/Counted.antt. Assumes nothing.
 use mathlib.Core.Path.{_≡_, refl, sym, ap, ap₂, _∙_}
 use mathlib.Core.Bool.{Bool, true, false, cond}
-use mathlib.Core.List.{List, [], _∷_, _++_}
+use mathlib.Core.List.{List, [], _∷_, _++_, append-nil, append-assoc}
 use mathlib.Core.Logic.{_⊎_, inl, inr, ⊎-elim}
 use Prim.Native.Nat.{ℕ, zero, suc, _+_, _-_, _*_, _≤_, _<_}
 use native.Mathlib.Nat.{add-zero, add-suc, le-refl, mul-add, mul-suc, mul-zero}
@@ -26,6 +26,14 @@ below-last i k h = go (decLt i k)
 pub length-tab : {A : Type 0} (k : ℕ) (f : ℕ → A) → length (tab k f) ≡ k
 length-tab zero f = refl
 length-tab (suc k) f = length-append (tab k f) (f k ∷ []) ∙ ap (λ (x : ℕ). x + 1) (length-tab k f) ∙ add-one k
+
+-- the first k, and j after them
+pub tab-split : {A : Type 0} (k j : ℕ) (f : ℕ → A) → tab k f ++ tab j (λ i. f (k + i)) ≡ tab (k + j) f
+tab-split k zero f = append-nil (tab k f) ∙ ap (λ (x : ℕ). tab x f) (sym (add-zero k))
+tab-split k (suc j) f =
+    sym (append-assoc (tab k f) (tab j (λ i. f (k + i))) (f (k + j) ∷ []))
+    ∙ ap (λ (l : List _). l ++ (f (k + j) ∷ [])) (tab-split k j f)
+    ∙ ap (λ (x : ℕ). tab x f) (sym (add-suc k j))
 
 pub getD-tab : {A : Type 0} (k : ℕ) (f : ℕ → A) (d : A) (i : ℕ) → i < k → getD (tab k f) i d ≡ f i
 getD-tab zero f d i h = absurd (omega arith)

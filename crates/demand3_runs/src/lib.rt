@@ -1,0 +1,1 @@
+// Theorems alone: demand 3 of the run of a sheet.
