@@ -53,5 +53,5 @@ demand3-of-sheets bytes trail bus e = go (sheetIn bytes) refl
           steps = s .steps;
           taken = s .taken-all;
           last = ap (λ (y : Result). y .ring) same ∙ s .ring;
-          agreed = agreed-at sheet (read-good bytes sheet end q) trail (s .steps) w;
+          agreed = λ k l. agreed-at sheet (read-good bytes sheet end q) trail (s .steps) w k (omega arith);
         }
