@@ -1,5 +1,3 @@
-pub mod Any
-pub mod Joined
 pub mod Gathering
 pub mod Running
 pub mod Reading

@@ -1,30 +1,22 @@
 -- The machine's own operations on a mask are those of specs/Sets.antt. Assumes nothing.
 use mathlib.Core.Path.{_≡_, sym, ap, ap₂, _∙_}
-use mathlib.Core.Bool.{true, false}
 use mathlib.Core.Logic.{⊎-elim}
 use Prim.Native.Nat.{ℕ, zero, suc, _+_, _-_, _*_, _/_, _%_, _^_, _<_, min}
 use native.Mathlib.Nat.{pow-suc, mod-eq-of-lt}
 use native.Mathlib.Omega.{arith}
 use lib.Dec.{eqb}
-use lib.Arith.{lt-one}
 use lib.Pow.{pow-pos, pow-lt, shl-exact}
 use lib.Bits.{bitAnd, and-step, and-mask}
-use lib.Count.{ones, onesIn, ones-step}
 use borrow.Author.Tests.{eqb-true, eqb-false}
 use Rattle.lists.proofs.Tests.{both}
 use Rattle.seats.specs.Sets.{hasSeat, withoutSeat}
 use Rattle.seats.proofs.Digits.{digit-zero, digit-suc, digit-le, half-less, odd-less}
+pub use Rattle.seats.proofs.Digits.{ones-in}
 use Rattle.seats.proofs.Sets.{without-is, without-none}
 
 -- 1 shifted by less than the width is the power
 pub one-shifted : (j : ℕ) → j < 32 → (1 * 2 ^ j) % 2 ^ 32 ≡ 2 ^ j
 one-shifted j h = shl-exact 1 j 32 (omega arith) (omega arith) ∙ omega arith
-
--- the count of a number's digits is the count of k of them
-pub ones-in : (k s : ℕ) → s < 2 ^ k → ones s ≡ onesIn k s
-unfolding ones onesIn
-ones-in zero s h = ap ones (lt-one h)
-ones-in (suc k) s h = ones-step s ∙ ap (λ (x : ℕ). s % 2 + x) (ones-in k (s / 2) (let p = pow-suc 2 k in omega arith))
 
 -- a removal, one digit down
 without-zero : (s : ℕ) → withoutSeat s 0 ≡ s / 2 * 2

@@ -1,12 +1,12 @@
--- Laws of `anyBelow` of specs/Marks.antt: whether some number below a count passes. Assumes nothing.
+-- Laws of `anyBelow` of specs/Counted.antt: whether some number below a count passes. Assumes nothing.
 use mathlib.Core.Path.{_≡_, refl, sym, ap, ap₂, _∙_}
 use mathlib.Core.Bool.{Bool, true, false, or-false, _||_}
 use mathlib.Core.Logic.{⊎-elim}
 use Prim.Native.Nat.{ℕ, zero, suc, _+_, _≤_, _<_}
 use native.Mathlib.Numerals.{add-one}
 use native.Mathlib.Omega.{arith}
+use Rattle.lists.specs.Counted.{anyBelow}
 use Rattle.lists.proofs.Counted.{below-last}
-use Rattle.run.specs.Marks.{anyBelow}
 
 pub any-more : (f : ℕ → Bool) (k : ℕ) → anyBelow (k + 1) f ≡ (anyBelow k f || f k)
 any-more f k = ap (λ (x : ℕ). anyBelow x f) (add-one k)
