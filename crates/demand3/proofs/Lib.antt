@@ -1,5 +1,4 @@
 pub mod Slots
-pub mod Found
 pub mod Seat
 pub mod Invariant
 pub mod Moves

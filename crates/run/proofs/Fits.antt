@@ -8,22 +8,25 @@ use native.Mathlib.Omega.{arith}
 use lib.Dec.{ltb}
 use lib.ListN.{length}
 use Rattle.limits.specs.Refusals.{numberOf}
+use Rattle.lists.specs.Counted.{tab}
 use Rattle.limits.specs.declared.Refusal.{Refusal}
 use Rattle.ring.specs.Ring.{zeroRing, isRing}
 use Rattle.ring.specs.Terms.{firstFailing}
-use Rattle.ring.specs.Trail.{width, roomFor}
+use Rattle.ring.specs.Trail.{width}
 use Rattle.ring.specs.Refusals.{Finding, within, outside, unfit, verdictFound}
 use Rattle.ring.specs.declared.Ring.{Ring}
-use Rattle.steps.proofs.Valid.{Valid, valid-ring}
+use Rattle.steps.proofs.Valid.{valid-ring, valid-wider}
 use Rattle.steps.proofs.After.{room-bytes}
-use Rattle.steps.proofs.Reached.{Stands, reached-stands}
+use Rattle.steps.specs.Run.{start}
+use Rattle.steps.proofs.Reached.{Stands, reached-stands, run-reached}
 use Rattle.sheet.specs.Good.{GoodSheet}
 use Rattle.sheet.specs.Sheets.{noSheet}
 use Rattle.sheet.specs.declared.Sheet.{Sheet}
 use Rattle.run.specs.Outcome.{Heard, Outcome, ran, refused, Result}
+use Rattle.run.specs.Marks.{marksAt}
 use Rattle.run.specs.Run.{runSheet, runOf}
 use Rattle.run.proofs.Reading.{read-is, run-offence}
-use Rattle.run.proofs.Story.{benchAt, Ending, agreed, differed, stopped, run-story, story-reached}
+use Rattle.run.proofs.Story.{benchAt, Ending, agreed, differed, stopped, run-story}
 
 -- ---- what is said
 
@@ -42,7 +45,7 @@ module _ (sheet : Sheet) (good : GoodSheet sheet) (t : List ℕ) where
   last-stands : let s = run-story sheet t in Stands (sheet .n) (length t) (benchAt sheet t (s .steps))
   last-stands =
       let s = run-story sheet t in
-      reached-stands (sheet .n) t (good .seats .0) (good .seats .1) (story-reached sheet t (s .steps) (s .taken-all))
+      reached-stands (sheet .n) t (good .seats .0) (good .seats .1) (run-reached (tab (s .steps) (marksAt sheet)) start)
 
   sheet-fits : Fits (runSheet sheet t)
   sheet-fits =
@@ -97,12 +100,6 @@ verdict-fit r number place v e = go (ltb (firstFailing r) (r .time)) (rw v at e)
     go true q = let z : _≡_ {A = ℕ} 0 1 = cc in omega arith
     go false q = let z : _≡_ {A = ℕ} 0 1 = cc in omega arith
 
--- a ring with room for its records is one where the room is 1,024
-wide : (r : Ring) (bytes : ℕ) → Valid r (roomFor bytes) → isRing r 1024 ≡ true
-wide r bytes v =
-    let f = v .fits in
-    valid-ring r 1024 (record { least = v .least; most = v .most; soon = v .soon; fits = omega arith; member = v .member; absent = v .absent })
-
 pub never-unfit : NeverUnfit
 never-unfit bytes t bus number place e =
     ⊎-elim
@@ -110,6 +107,6 @@ never-unfit bytes t bus number place e =
     let s = run-story (r .0) t in
     let b = benchAt (r .0) t (s .steps) in
     let x = ending-verdict (r .0) t (s .steps) _ (s .ending) bus (unfit number place) (sym (ap (λ (y : Result). y .outcome) (r .2 t)) ∙ e) in
-    verdict-fit (b .ring) number place (wide (b .ring) (length t) (last-stands (r .0) (r .1) t .valid)) x)
+    verdict-fit (b .ring) number place (valid-ring (b .ring) 1024 (valid-wider (b .ring) (omega arith) (last-stands (r .0) (r .1) t .valid))) x)
     (λ r. let q = sym (ap (λ (y : Result). y .outcome) (run-offence bytes t (r .2))) ∙ e in let z : _≡_ {A = ℕ} 0 1 = cc in omega arith)
     (read-is bytes)

@@ -1,8 +1,7 @@
 -- The run of a sheet from a slot on: how it ends there or goes on, and that what is left comes to the same as all did. Assumes nothing.
 use mathlib.Core.Path.{_≡_, refl, sym, ap, ap₂, _∙_}
-use mathlib.Core.Bool.{Bool, true, false, cond, not, _&&_}
+use mathlib.Core.Bool.{Bool, true, false, cond}
 use mathlib.Core.List.{List}
-use mathlib.Core.Logic.{⊎-elim}
 use Prim.Native.Nat.{ℕ, zero, suc, _+_, _-_, _%_, _≤_, _<_}
 use native.Mathlib.Omega.{arith}
 use lib.Dec.{eqb}
@@ -15,11 +14,9 @@ use Rattle.ring.specs.Refusals.{told}
 use Rattle.ring.specs.Promise.{FreshPromise, StepPromise}
 use Rattle.ring.specs.declared.Ring.{Ring}
 use Rattle.ring.specs.declared.Stepped.{Stepped}
-use Rattle.seats.specs.Sets.{hasSeat}
 use Rattle.steps.specs.Run.{Marks, Bench, toldOn, stepOn, freshBench}
-use Rattle.steps.proofs.Taken.{told-is, told-taken}
-use Rattle.steps.proofs.After.{length-after, room-bytes}
-use Rattle.steps.proofs.Reached.{fresh-n, fresh-time, step-after, step-refused}
+use Rattle.steps.proofs.Seen.{speaks-is}
+use Rattle.steps.proofs.Reached.{fresh-n, fresh-time, step-after, step-refused, step-length}
 use Rattle.sheet.specs.Bytes.{heardOne, heardZero, heardSilence}
 use Rattle.sheet.specs.Good as sheets
 use Rattle.sheet.specs.Good.{GoodSheet}
@@ -62,22 +59,6 @@ module _ (sheet : Sheet) (b : Bench) (left : ℕ) where
     pub run-goes-on : toldOn (marksOn sheet b) b ≡ limits.done → runFrom (suc left) sheet b ≡ runFrom left sheet (stepOn (marksOn sheet b) b)
     unfolding runFrom
     run-goes-on e = rw (same, e)
-
--- a step keeps the trail's length
-step-length : (m : Marks) (b : Bench) → length (stepOn m b .trail) ≡ length (b .trail)
-step-length m b =
-    ⊎-elim
-    (λ e.
-    let t = told-taken (b .ring) (m .send) (m .receive) (length (b .trail)) e in
-    ap (λ (x : Bench). length (x .trail)) (step-after m b e)
-    ∙ length-after (b .ring) (slotOf (b .ring) (m .send) (m .receive)) (b .trail) (room-bytes _ _ (t .room)))
-    (λ x. ap (λ (y : Bench). length (y .trail)) (step-refused m b (x .2)))
-    (told-is (toldOn m b))
-
--- what the owner speaks, from its set and bit alone
-not-out : (set owner : Bool) → (not (not set) && owner) ≡ (set && owner)
-not-out true owner = refl
-not-out false owner = refl
 
 -- ---- the loop over the slots
 
@@ -136,7 +117,7 @@ module _ {sheet : Sheet} {all : Result} {trail : List ℕ} {r : Ring} {g : Gathe
     spoken-given =
         let o : ownerAt sheet at ≡ ownerOf r = ap₂ (λ (x y : ℕ). x % y) (sym (go .time)) (sym (go .seats)) in
         ap (λ (k : ℕ). spokenBy (seatOf r k .set) (seatOf r k .ack) k (given .send)) o
-        ∙ ap (λ (x : Bool). cond x (cond (seatOf r (ownerOf r) .ack) heardOne heardZero) heardSilence) (sym (not-out (hasSeat (seatOf r (ownerOf r) .set) (ownerOf r)) (not (given .send))))
+        ∙ ap (λ (x : Bool). cond x (cond (seatOf r (ownerOf r) .ack) heardOne heardZero) heardSilence) (sym (speaks-is r (given .send) (given .receive)))
         ∙ ap (λ (m : Marks). spokenOn m b) marks-given
 
     left : ℕ

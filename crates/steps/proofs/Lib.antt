@@ -1,5 +1,7 @@
 pub mod Valid
 pub mod Drawn
+pub mod Gone
+pub mod Seen
 pub mod Turn
 pub mod Taken
 pub mod After

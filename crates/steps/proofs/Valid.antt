@@ -84,6 +84,10 @@ valid-ring r room v =
     (λ f. rw f (absent-stands (seatOf r p) (v .absent p (ltb-false _ _ f) l)))
     (both (ltb p (r .n)))))
 
+-- with more room it is still one
+pub valid-wider : (r : Ring) {room wide : ℕ} → room ≤ wide → Valid r room → Valid r wide
+valid-wider r h v = record { least = v .least; most = v .most; soon = v .soon; fits = omega (arith, v .fits); member = v .member; absent = v .absent }
+
 -- ---- the owner of the slot
 
 pub owner-below : (r : Ring) (room : ℕ) → Valid r room → ownerOf r < r .n
