@@ -3,5 +3,3 @@ pub mod Running
 pub mod Reading
 pub mod Story
 pub mod Fits
-pub mod Unique
-pub mod Examples
