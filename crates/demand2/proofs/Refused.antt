@@ -55,7 +55,7 @@ module _ (r : Ring) (send : Bool) (receive bytes : ℕ) where
       let l = leb-false receive (fullSet (r .n)) f in
       let g = full-is (r .n) h in
       let q = past-has receive (r .n) (omega arith) in
-      (q .0, q .1, inr (q .2)))
+      (q .0, q .1, inr (omega (arith, q .2))))
       (λ f. (ownerOf r, not-false _ f, inl refl))
       (and-fails _ _ e)
 

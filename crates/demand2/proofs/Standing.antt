@@ -13,6 +13,7 @@ use Rattle.ring.specs.Table.{table, arrived, bitOf, Gone, gone, goneBy}
 use Rattle.ring.specs.Step.{viewOf, goneAt}
 use Rattle.ring.specs.declared.Ring.{Ring}
 use Rattle.ring.specs.declared.slot.Slot.{Slot}
+use Rattle.ring.specs.declared.table.Cause.the-variants.{A, C}
 use Rattle.ring.specs.declared.table.Removal.{Removal}
 use Rattle.ring.specs.declared.table.Removal.the-variants.{Nobody, Itself, Owner, Both}
 use Rattle.steps.proofs.Turn.{turn-elim}
@@ -45,7 +46,7 @@ ordered-row time p b true false true false = each.ordered-one noEntry Before _
 ordered-row time p b true false true true = each.ordered-one noEntry Before _
 ordered-row time p b true false false d = each.ordered-nil noEntry Before
 ordered-row time p b false bit true d = each.ordered-one noEntry Before _
-ordered-row time p b false bit false d = each.ordered-two noEntry Before _ _ (inr (refl, refl, refl))
+ordered-row time p b false bit false d = each.ordered-two noEntry Before (entryOf time p (gone p A)) (entryOf time p (gone b C)) (inr (refl, refl, refl))
 
 -- a row's removals are told with their causes
 Told : ℕ → ℕ → ℕ → Removal → Entry → Type 0
