@@ -15,10 +15,6 @@ pub any-same : (f g : ℕ → Bool) (k : ℕ) → ((i : ℕ) → i < k → f i �
 any-same f g zero h = refl
 any-same f g (suc k) h = ap₂ (λ (a b : Bool). a || b) (any-same f g k (λ i l. h i (omega arith))) (h k (omega arith))
 
-pub any-none : (f : ℕ → Bool) (k : ℕ) → ((i : ℕ) → i < k → f i ≡ false) → anyBelow k f ≡ false
-any-none f zero h = refl
-any-none f (suc k) h = rw (any-none f k (λ i l. h i (omega arith))) (h k (omega arith))
-
 -- none passes from j on
 pub any-up-to : (f : ℕ → Bool) (j k : ℕ) → j ≤ k → ((i : ℕ) → j ≤ i → i < k → f i ≡ false) → anyBelow k f ≡ anyBelow j f
 any-up-to f j zero l h = let e : 0 ≡ j = omega arith in ap (λ (x : ℕ). anyBelow x f) e
@@ -27,6 +23,9 @@ any-up-to f j (suc k) l h =
     (λ m. rw (h k (omega arith) (omega arith), or-false (anyBelow k f)) (any-up-to f j k (omega arith) (λ i a b. h i a (omega arith))))
     (λ e. ap (λ (x : ℕ). anyBelow x f) (sym e))
     (below-last j (suc k) (omega arith))
+
+pub any-none : (f : ℕ → Bool) (k : ℕ) → ((i : ℕ) → i < k → f i ≡ false) → anyBelow k f ≡ false
+any-none f k h = any-up-to f 0 k (omega arith) (λ i a l. h i l)
 
 swap-or : (a b x y : Bool) → ((a || b) || (x || y)) ≡ ((a || x) || (b || y))
 swap-or true b x y = refl

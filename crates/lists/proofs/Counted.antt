@@ -118,12 +118,7 @@ sum-times c f (suc k) = ap (λ (x : ℕ). x + c * f k) (sum-times c f k) ∙ sym
 
 -- the sum grows with its count
 pub sum-le : (f : ℕ → ℕ) (j k : ℕ) → j ≤ k → sum j f ≤ sum k f
-sum-le f j zero h = rw (le-zero h) (le-refl 0)
-sum-le f j (suc k) h =
-    ⊎-elim
-    (λ l. let r = sum-le f j k (omega arith) in omega arith)
-    (λ e. rw e (le-refl (sum (suc k) f)))
-    (below-last j (suc k) (omega arith))
+sum-le f j k h = rising (λ i. sum i f) (suc k) (λ i l. omega arith) j k h (omega arith)
 
 -- and with its terms
 pub sum-mono : (f g : ℕ → ℕ) (k : ℕ) → ((i : ℕ) → i < k → f i ≤ g i) → sum k f ≤ sum k g
