@@ -1,6 +1,6 @@
 -- The five empty programs of document 01 (specs/Empty.antt): none keeps the promise of `step`, not even on the benches of runs.
 use mathlib.Core.Path.{_≡_, refl, sym, ap, _∙_, subst}
-use mathlib.Core.Bool.{Bool, true, false, cond}
+use mathlib.Core.Bool.{Bool, false, cond}
 use mathlib.Core.List.{[]}
 use Prim.Native.Nat.{ℕ, _+_, _*_, _^_, _<_}
 use native.Mathlib.Omega.{arith}
@@ -20,7 +20,7 @@ use Rattle.ring.specs.declared.Stepped.{Stepped}
 use Rattle.ring.specs.declared.Answer.{Answer}
 use Rattle.ring.specs.declared.Answer.the-variants.{Taken, Refused}
 use Rattle.ring.specs.declared.slot.Seat.{Seat}
-use Rattle.steps.specs.Run.{Marks, Bench, toldOn, stepOn, freshBench, Reached, start, taken}
+use Rattle.steps.specs.Run.{Marks, quiet, sendFault, Bench, toldOn, stepOn, freshBench, Reached, start, taken}
 use Rattle.steps.proofs.Taken.{not-done}
 use Rattle.demand2.specs.Empty.{Program, given, on, Keeps, RefusesAll, refuser, Constant, constantly, StandsStill, sleeper, FirstOnly, firstTimer, Invents, inventor}
 use Rattle.demand2.specs.Refused.{Answered, not-a-ring, wrong-mark, at-the-end, no-room}
@@ -36,12 +36,6 @@ ShutOut Kind = (f : Program) → Kind f → Keeps f → ⊥
 
 -- ---- the benches at which they are caught: a fresh ring of 4 with room for 3 records, and the same a quiet step later
 
-quiet : Marks
-quiet = record { send = false; receive = 0 }
-
-silent : Marks
-silent = record { send = true; receive = 0 }
-
 bench₀ : Bench
 bench₀ = freshBench 4 (replicate 15 0)
 
@@ -53,7 +47,7 @@ unfolding bench₀
 run₀ = start
 
 run₁ : Reached 4 (replicate 15 0) bench₁
-unfolding bench₁ bench₀ quiet ringOf trailOf stepTold isRing everySeatStands freshRing zeroRing turnOf
+unfolding bench₁ bench₀ ringOf trailOf stepTold isRing everySeatStands freshRing zeroRing turnOf
 run₁ = taken run₀ quiet refl
 
 module _ (f : Program) (keeps : Keeps f) where
@@ -66,30 +60,29 @@ module _ (f : Program) (keeps : Keeps f) where
 -- ---- what the promise says there
 
 told₀ : toldOn quiet bench₀ ≡ done
-unfolding bench₀ quiet stepTold isRing everySeatStands freshRing zeroRing turnOf
+unfolding bench₀ stepTold isRing everySeatStands freshRing zeroRing turnOf
 told₀ = refl
 
 time₀ : stepOn quiet bench₀ .ring .time ≡ 1
-unfolding bench₀ quiet ringOf stepTold isRing everySeatStands freshRing zeroRing turnOf
+unfolding bench₀ ringOf stepTold isRing everySeatStands freshRing zeroRing turnOf
 time₀ = refl
 
 time₁ : stepOn quiet bench₁ .ring .time ≡ 2
-unfolding bench₁ bench₀ quiet ringOf trailOf stepTold isRing everySeatStands freshRing zeroRing turnOf
+unfolding bench₁ bench₀ ringOf trailOf stepTold isRing everySeatStands freshRing zeroRing turnOf
 time₁ = refl
 
-set₀ : (seatOf (stepOn silent bench₀ .ring) 1 .set ≡ 14) × (seatOf (bench₀ .ring) 1 .set ≡ 15)
-unfolding bench₀ silent ringOf stepTold isRing everySeatStands freshRing zeroRing turnOf
+set₀ : (seatOf (stepOn sendFault bench₀ .ring) 1 .set ≡ 14) × (seatOf (bench₀ .ring) 1 .set ≡ 15)
+unfolding bench₀ ringOf stepTold isRing everySeatStands freshRing zeroRing turnOf
 set₀ = (refl, refl)
 
-set₁ : (seatOf (stepOn silent bench₁ .ring) 0 .set ≡ 13) × (seatOf (bench₁ .ring) 0 .set ≡ 15) × (bench₁ .ring .time ≡ 1)
-unfolding bench₁ bench₀ quiet silent ringOf trailOf stepTold isRing everySeatStands freshRing zeroRing turnOf
+set₁ : (seatOf (stepOn sendFault bench₁ .ring) 0 .set ≡ 13) × (seatOf (bench₁ .ring) 0 .set ≡ 15) × (bench₁ .ring .time ≡ 1)
+unfolding bench₁ bench₀ ringOf trailOf stepTold isRing everySeatStands freshRing zeroRing turnOf
 set₁ = (refl, refl, refl)
 
 -- ---- the theorems
 
 -- one that refuses everything
 pub refuses-all : ShutOut RefusesAll
-unfolding quiet
 refuses-all f kind keeps =
     let k = at₀ f keeps quiet (omega arith) in
     let r = kind (bench₀ .ring) (quiet .send) (quiet .receive) (bench₀ .trail) in
@@ -97,7 +90,6 @@ refuses-all f kind keeps =
 
 -- one with a constant result
 pub constant : ShutOut Constant
-unfolding quiet
 constant f kind keeps =
     let a = at₀ f keeps quiet (omega arith) .ring in
     let b = at₁ f keeps quiet (omega arith) .ring in
@@ -108,19 +100,17 @@ constant f kind keeps =
 
 -- one that steps without changing anything
 pub stands-still : ShutOut StandsStill
-unfolding silent
 stands-still f kind keeps =
-    let a = at₀ f keeps silent (omega arith) .ring in
-    let k = kind (bench₀ .ring) (silent .send) (silent .receive) (bench₀ .trail) 1 in
+    let a = at₀ f keeps sendFault (omega arith) .ring in
+    let k = kind (bench₀ .ring) (sendFault .send) (sendFault .receive) (bench₀ .trail) 1 in
     omega (arith, sym (set₀ .0) ∙ ap (λ (r : Ring). seatOf r 1 .set) (sym a) ∙ ap (λ (s : Seat). s .set) k ∙ set₀ .1)
 
 -- one that applies the rules at time 0 and afterwards only advances the time
 pub first-only : ShutOut FirstOnly
-unfolding silent
 first-only f kind keeps =
-    let a = at₁ f keeps silent (omega arith) .ring in
+    let a = at₁ f keeps sendFault (omega arith) .ring in
     let z = set₁ .2 in
-    let k = kind (bench₁ .ring) (silent .send) (silent .receive) (bench₁ .trail) (omega arith) 0 in
+    let k = kind (bench₁ .ring) (sendFault .send) (sendFault .receive) (bench₁ .trail) (omega arith) 0 in
     omega (arith, sym (set₁ .0) ∙ ap (λ (r : Ring). seatOf r 0 .set) (sym a) ∙ ap (λ (s : Seat). s .set) k ∙ set₁ .1)
 
 -- one that invents its record count
@@ -149,7 +139,7 @@ first-timer-is : FirstOnly firstTimer
 first-timer-is r send receive t l p = rw (ne-eqb (r .time) 0 (omega arith))
 
 inventor-is : Invents inventor
-unfolding bench₀ quiet ringOf stepTold isRing everySeatStands freshRing zeroRing turnOf
+unfolding bench₀ ringOf stepTold isRing everySeatStands freshRing zeroRing turnOf
 inventor-is = record {
   n = 4;
   bytes = 15;

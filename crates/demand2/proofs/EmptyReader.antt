@@ -2,8 +2,8 @@
 use mathlib.Core.List.{List, [], _∷_}
 use mathlib.Core.Path.{_≡_, refl, sym, ap, _∙_}
 use Prim.Native.Nat.{ℕ}
-use native.Mathlib.Omega.{arith}
-use Rattle.limits.specs.Refusals.{Told, done, refused}
+use Rattle.limits.specs.Refusals.{done, refused}
+use Rattle.steps.proofs.Taken.{not-done}
 use Rattle.sheet.specs.Bytes.{byteAt, digitsAt, numberAt}
 use Rattle.sheet.specs.Lines.{endAt, ended, lineAt, linesAt, sectionAt, isNew, moduleLine, slotLine}
 use Rattle.sheet.specs.Marks.{markOffence, spacedAt, fieldsAt, markLine}
@@ -29,18 +29,16 @@ empty-refused : toldOf (sheetIn []) ≡ refused 1 0
 unfolding sheetIn sectionAt lineAt ended endAt numberAt digitsAt byteAt noModules
 empty-refused = refl
 
-never : (a : Told) {number place : ℕ} → a ≡ done → a ≡ refused number place → ⊥
-never a p q = let z : _≡_ {A = ℕ} 0 1 = cc in omega arith
-
 -- ---- the theorems
 
 pub refuses-all-read : ShutOut RefusesAll
 refuses-all-read f all keeps =
     let x = all good in
-    never (told (f good .answer)) (keeps good .answer ∙ good-read) (x .2)
+    not-done (sym (x .2) ∙ keeps good .answer ∙ good-read)
 
 pub constant-read : ShutOut Constant
 constant-read f (r, same) keeps =
-    never (told (r .answer))
-    (ap (λ (x : Reading). told (x .answer)) (sym (same good)) ∙ keeps good .answer ∙ good-read)
-    (ap (λ (x : Reading). told (x .answer)) (sym (same [])) ∙ keeps [] .answer ∙ empty-refused)
+    not-done
+    (sym (keeps [] .answer ∙ empty-refused)
+    ∙ ap (λ (x : Reading). told (x .answer)) (same [] ∙ sym (same good))
+    ∙ keeps good .answer ∙ good-read)

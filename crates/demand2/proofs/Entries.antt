@@ -17,7 +17,7 @@ use Rattle.ring.specs.Step.{goneAt, countIn, recordsAt, trailAfter}
 use Rattle.ring.specs.Trail.{width, letterOf, recordOf, recordsOf}
 use Rattle.ring.specs.declared.Ring.{Ring}
 use Rattle.ring.specs.declared.slot.Slot.{Slot}
-use Rattle.steps.proofs.After.{length-written}
+use Rattle.ring.proofs.Records.{length-all}
 use Rattle.demand2.specs.Records.{Entry, entryAt}
 
 -- ---- the entries of a step
@@ -111,11 +111,11 @@ module _ (r : Ring) (c : Slot) where
   reads-step = reads-joined (r .n) (recordsAt r c) (entriesAt r c) (λ p. reads-records (c .time) p (goneAt r c p))
 
   pub entries-count : length (entriesIn r c) ≡ countIn r c
-  entries-count = let s = reads-step .size in let w = length-written r c (r .n) in omega arith
+  entries-count = let s = reads-step .size in let w = length-all r c (r .n) in omega arith
 
   module _ (t : List ℕ) (fits : width * (r .records + countIn r c) ≤ length t) where
     fits-bytes : width * r .records + length (joined (r .n) (recordsAt r c)) ≤ length t
-    fits-bytes = let w = length-written r c (r .n) in omega arith
+    fits-bytes = let w = length-all r c (r .n) in omega arith
 
     -- the records before the step's are as they were
     pub entry-before : (i : ℕ) → i < r .records → entryAt (trailAfter r c t) i ≡ entryAt t i
@@ -127,7 +127,7 @@ module _ (r : Ring) (c : Slot) where
     pub entry-within : (i : ℕ) → i < countIn r c → entryAt (trailAfter r c t) (r .records + i) ≡ getD (entriesIn r c) i noEntry
     entry-within i l =
         let xs = joined (r .n) (recordsAt r c) in
-        let w = length-written r c (r .n) in
+        let w = length-all r c (r .n) in
         let m = entries-count in
         entry-same (trailAfter r c t) xs (r .records + i) i (λ k h.
         let q : width * (r .records + i) + k ≡ width * r .records + (width * i + k) = omega arith in
@@ -138,5 +138,5 @@ module _ (r : Ring) (c : Slot) where
     pub byte-outside : (j : ℕ) → (j < width * r .records) ⊎ (width * (r .records + countIn r c) ≤ j) → getD (trailAfter r c t) j 0 ≡ getD t j 0
     byte-outside j h =
         let xs = joined (r .n) (recordsAt r c) in
-        let w = length-written r c (r .n) in
+        let w = length-all r c (r .n) in
         ⊎-elim (λ l. put-before t (width * r .records) xs fits-bytes j l) (λ l. put-after t (width * r .records) xs fits-bytes j (omega arith)) h

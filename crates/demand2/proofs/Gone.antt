@@ -1,6 +1,6 @@
 -- What a removal takes from a set: those whom it names and no other, each once. Assumes nothing.
 use mathlib.Core.Path.{_≡_, refl, sym, ap, ap₂, _∙_}
-use mathlib.Core.Bool.{Bool, true, false, not, _&&_, and-not-self, false≢true, true≢false}
+use mathlib.Core.Bool.{Bool, true, false, not, _&&_, and-not-self, false≢true}
 use mathlib.Core.List.{List, [], _∷_}
 use mathlib.Core.Logic.{⊎-elim}
 use Prim.Native.Nat.{ℕ, _+_, _<_}
@@ -11,7 +11,7 @@ use lib.ListN.{length}
 use borrow.Author.Tests.{eqb-true, eqb-false, eq-eqb}
 use Rattle.lists.proofs.Tests.{both}
 use Rattle.seats.specs.Sets.{hasSeat, withoutSeat, sizeOf}
-use Rattle.seats.proofs.Sets.{without-same, without-other, without-size}
+use Rattle.seats.proofs.Sets.{without-same, without-other, without-in, without-size}
 use Rattle.ring.specs.Table.{decided, Gone, gone, goneBy, withoutAll}
 use Rattle.ring.specs.Step.{viewOf, turnOf}
 use Rattle.ring.specs.declared.slot.Seat.{Seat}
@@ -81,14 +81,6 @@ left-step set mid after q f g = go (hasSeat set q) (hasSeat mid q) (hasSeat afte
     go false false true f g = refl
     go false false false f g = refl
 
--- who is in a set without one seat is in the set
-within : (set j q : ℕ) → hasSeat (withoutSeat set j) q ≡ true → hasSeat set q ≡ true
-within set j q h =
-    ⊎-elim
-    (λ e. absurd (true≢false (sym (ap (hasSeat (withoutSeat set j)) (sym (eqb-true q j e)) ∙ h) ∙ without-same set j)))
-    (λ e. sym (without-other set j q (eqb-false q j e)) ∙ h)
-    (both (eqb q j))
-
 -- each seat that leaves is told of once, and no other is
 module _ (time set p b q : ℕ) (apart : p ≡ b → ⊥) (hp : hasSeat set p ≡ true) (hb : hasSeat set b ≡ true) where
   told-one : (j : ℕ) → one (tellsOf p q (entryOf time p (gone j A))) ≡ one (eqb j q)
@@ -104,7 +96,7 @@ module _ (time set p b q : ℕ) (apart : p ≡ b → ⊥) (hp : hasSeat set p �
       let y = told-one b in
       let u = ap one (left-one set p q hp) in
       let v = ap one (left-one mid b q (without-other set p b (λ i. apart (sym i)) ∙ hb)) in
-      let w = left-step set mid (withoutSeat mid b) q (within set p q) (within mid b q) in
+      let w = left-step set mid (withoutSeat mid b) q (without-in set p q) (without-in mid b q) in
       omega arith
 
 pub turn-left : (time : ℕ) (c : Slot) (p q : ℕ) (s : Seat)
@@ -120,7 +112,7 @@ turn-left time c p q s =
 
 all-within : (set q : ℕ) (gs : List Gone) → hasSeat (withoutAll set gs) q ≡ true → hasSeat set q ≡ true
 all-within set q [] h = h
-all-within set q (g ∷ more) h = within set (g .seat) q (all-within (withoutSeat set (g .seat)) q more h)
+all-within set q (g ∷ more) h = without-in set (g .seat) q (all-within (withoutSeat set (g .seat)) q more h)
 
 pub turn-within : (c : Slot) (p q : ℕ) (s : Seat) → hasSeat (turnOf c p s .seat .set) q ≡ true → hasSeat (s .set) q ≡ true
 turn-within c p q s =

@@ -2,21 +2,19 @@
 -- in its footnote 4 (specs/Paper.antt), and changes nothing of a seat outside its own set. The doubt bit stands for the footnote's words 'was
 -- the previous broadcaster and sent a false ack', and along any run it says just that.
 use mathlib.Core.Path.{_≡_, refl, sym, ap, _∙_, subst}
-use mathlib.Core.Bool.{Bool, true, false, cond, not, _&&_, and-true, and-false, Bool·not-not, true≢false, _||_}
+use mathlib.Core.Bool.{Bool, true, false, cond, not, _&&_, true≢false, _||_}
 use mathlib.Core.List.{List}
 use mathlib.Core.Logic.{⊎-elim}
 use Prim.Native.Nat.{ℕ, _≤_, _<_}
 use native.Mathlib.Omega.{arith}
 use lib.Dec.{eqb, ltb}
 use lib.ListN.{replicate}
-use borrow.Author.Tests.{eqb-true, eqb-false, eq-eqb, ne-eqb, ltb-true, ltb-false}
+use borrow.Author.Tests.{eq-eqb, ne-eqb, ltb-true, ltb-false}
 use Rattle.limits.specs.Refusals.{done}
 use Rattle.lists.proofs.Tests.{both}
-use Rattle.seats.specs.Sets.{hasSeat, withoutSeat}
-use Rattle.seats.proofs.Sets.{without-same, without-other}
+use Rattle.seats.specs.Sets.{hasSeat}
 use Rattle.ring.specs.Ring.{seatOf, freshRing, zeroRing, isRing, everySeatStands}
-use Rattle.ring.specs.Table.{Row, table, bitOf, goneBy, withoutAll}
-use Rattle.ring.specs.Table.{arrived as seen}
+use Rattle.ring.specs.Table.{Row, table}
 use Rattle.ring.specs.Step.{slotOf, otherTurn, turnOf}
 use Rattle.ring.specs.Refusals.{told, stepTold}
 use Rattle.ring.specs.Promise.{StepPromise, ringOf, trailOf}
@@ -25,10 +23,9 @@ use Rattle.ring.specs.declared.Answer.the-variants.{Taken}
 use Rattle.ring.specs.declared.Stepped.{Stepped}
 use Rattle.ring.specs.declared.slot.Seat.{Seat}
 use Rattle.ring.specs.declared.slot.Turn.{Turn}
-use Rattle.ring.specs.declared.table.View.the-variants.{Silent, Missed, Heard}
-use Rattle.ring.specs.declared.table.Removal.{Removal}
-use Rattle.ring.specs.declared.table.Removal.the-variants.{Nobody, Itself, Owner, Both}
-use Rattle.steps.specs.Run.{Marks, Bench, toldOn, stepOn, freshBench, Reached, start, taken}
+use Rattle.steps.specs.Run.{Marks, quiet, missedBy, Bench, toldOn, stepOn, freshBench, Reached, start, taken}
+use Rattle.steps.proofs.Gone.{takesItself, takesOwner, gone-has}
+use Rattle.steps.proofs.Seen.{speaks-is, view-table}
 use Rattle.steps.proofs.Turn.{turn-elim, turn-out}
 use Rattle.steps.proofs.Taken.{taken-ring}
 use Rattle.steps.proofs.After.{seat-after, seat-beyond}
@@ -74,19 +71,6 @@ AckRetains = (k : Knows) → does k .ack ≡ not (caseC k || caseD k)
 
 -- ---- the table is the paper's rules
 
--- whether a removal takes the seat itself, and whether it takes the owner
-takesItself : Removal → Bool
-takesItself Nobody = false
-takesItself (Itself c) = true
-takesItself (Owner c) = false
-takesItself (Both c d) = true
-
-takesOwner : Removal → Bool
-takesOwner Nobody = false
-takesOwner (Itself c) = false
-takesOwner (Owner c) = true
-takesOwner (Both c d) = true
-
 rowDoes : Row → Does
 rowDoes x = record { itself = takesItself (x .removed); broadcaster = takesOwner (x .removed); causes = x .removed; ack = x .ack }
 
@@ -94,7 +78,7 @@ knows : Bool → Bool → Bool → Bool → Knows
 knows a bit own d = record { arrived = a; ackB = bit; ackP = own; sentFalse = d }
 
 table-does : (a bit own d : Bool) → rowDoes (table a bit own d) ≡ does (knows a bit own d)
-unfolding takesItself takesOwner rowDoes knows
+unfolding rowDoes knows
 table-does true true true d = refl
 table-does true true false d = refl
 table-does true false true false = refl
@@ -102,38 +86,6 @@ table-does true false true true = refl
 table-does true false false d = refl
 table-does false bit true d = refl
 table-does false bit false d = refl
-
--- what a seat sees, as the table takes it
-view-table : (speaks marked bit own d : Bool)
-    → table (seen (cond speaks (cond marked Missed (Heard bit)) Silent)) (bitOf (cond speaks (cond marked Missed (Heard bit)) Silent)) own d
-    ≡ table (speaks && not marked) bit own d
-view-table true true bit true d = refl
-view-table true true bit false d = refl
-view-table true false bit own d = refl
-view-table false marked bit true d = refl
-view-table false marked bit false d = refl
-
--- ---- who is in the set after a removal
-
-without-has : (set j q : ℕ) → hasSeat (withoutSeat set j) q ≡ (hasSeat set q && not (eqb q j))
-without-has set j q =
-    ⊎-elim
-    (λ e.
-    ap (hasSeat (withoutSeat set j)) (eqb-true q j e) ∙ without-same set j
-    ∙ sym (ap (λ (x : Bool). hasSeat set q && not x) e ∙ and-false (hasSeat set q)))
-    (λ e.
-    without-other set j q (eqb-false q j e)
-    ∙ sym (ap (λ (x : Bool). hasSeat set q && not x) e ∙ and-true (hasSeat set q)))
-    (both (eqb q j))
-
-gone-has : (set p b q : ℕ) (k : Removal)
-    → hasSeat (withoutAll set (goneBy p b k)) q ≡ (hasSeat set q && not (eqb q p && takesItself k) && not (eqb q b && takesOwner k))
-unfolding takesItself takesOwner
-gone-has set p b q Nobody = simp (and-false, and-true)
-gone-has set p b q (Itself c) = simp (without-has, and-false, and-true)
-gone-has set p b q (Owner c) = simp (without-has, and-false, and-true)
-gone-has set p b q (Both c d) =
-    without-has (withoutSeat set p) b q ∙ ap (λ (x : Bool). x && not (eqb q b)) (without-has set p q) ∙ simp and-true
 
 -- ---- the three ways of the paper
 
@@ -150,9 +102,7 @@ module _ (r : Ring) (m : Marks) (d : Bool) (p : ℕ) where
   -- the broadcast arrives as the engine's seat sees it
   arrived-is : membership r p (broadcaster r) ≡ true
       → (slotOf r (m .send) (m .receive) .speaks && not (hasSeat (m .receive) p)) ≡ arrived r m p
-  arrived-is h =
-      ap (λ (x : Bool). x && not (m .send) && not (hasSeat (m .receive) p)) (Bool·not-not (membership r (broadcaster r) (broadcaster r)))
-      ∙ rw h
+  arrived-is h = ap (λ (x : Bool). x && not (hasSeat (m .receive) p)) (speaks-is r (m .send) (m .receive)) ∙ rw h
 
 module _ (r : Ring) (m : Marks) (p : ℕ) where
   -- the row of a seat that expects the owner does what the paper says
@@ -251,21 +201,15 @@ ack-retains k = go (k .arrived) (k .ackB) (k .ackP)
 
 -- ---- one such run: 3 seats, seat 1 misses time 0 and then speaks; it doubts, and the next broadcast excludes it by the footnote
 
-missed : Marks
-missed = record { send = false; receive = 2 }
-
-quiet : Marks
-quiet = record { send = false; receive = 0 }
-
 bench₀ : Bench
 bench₀ = freshBench 3 (replicate 45 0)
 
 bench₂ : Bench
-bench₂ = stepOn quiet (stepOn missed bench₀)
+bench₂ = stepOn quiet (stepOn (missedBy 1) bench₀)
 
 run₂ : Reached 3 (replicate 45 0) bench₂
-unfolding bench₀ bench₂ missed quiet ringOf trailOf stepTold isRing everySeatStands freshRing zeroRing turnOf
-run₂ = taken (taken start missed refl) quiet refl
+unfolding bench₀ bench₂ ringOf trailOf stepTold isRing everySeatStands freshRing zeroRing turnOf
+run₂ = taken (taken start (missedBy 1) refl) quiet refl
 
 -- at time 2 it is in its own set, and has sent a false ack in its own slot; by the footnote it leaves, and would stay without it
 doubts : (toldOn quiet bench₂ ≡ done)
@@ -273,12 +217,12 @@ doubts : (toldOn quiet bench₂ ≡ done)
     × (sentFalse 1 (history run₂) ≡ true)
     × (updated (bench₂ .ring) quiet true 1 .membership 1 ≡ false)
     × (updated (bench₂ .ring) quiet false 1 .membership 1 ≡ true)
-unfolding run₂ history bench₀ bench₂ missed quiet ringOf trailOf stepTold isRing everySeatStands freshRing zeroRing turnOf
+unfolding run₂ history bench₀ bench₂ ringOf trailOf stepTold isRing everySeatStands freshRing zeroRing turnOf
 doubts = (refl, refl, refl, refl, refl)
 
 -- at time 3 it is out, and a step is taken
 stays : (toldOn quiet (stepOn quiet bench₂) ≡ done) × (membership (stepOn quiet bench₂ .ring) 1 1 ≡ false)
-unfolding bench₀ bench₂ missed quiet ringOf trailOf stepTold isRing everySeatStands freshRing zeroRing turnOf
+unfolding bench₀ bench₂ ringOf trailOf stepTold isRing everySeatStands freshRing zeroRing turnOf
 stays = (refl, refl)
 
 -- and that step as one that keeps the engine's promise, by a seat that expects the broadcaster
@@ -286,5 +230,5 @@ kept : StepPromise (bench₂ .ring) false 0 (bench₂ .trail)
     (record { answer = Taken; ring = ringOf (bench₂ .ring) false 0 (bench₂ .trail) })
     (trailOf (bench₂ .ring) false 0 (bench₂ .trail))
     × (membership (bench₂ .ring) 1 (broadcaster (bench₂ .ring)) ≡ true)
-unfolding bench₀ bench₂ missed quiet ringOf trailOf stepTold isRing everySeatStands freshRing zeroRing turnOf
+unfolding bench₀ bench₂ ringOf trailOf stepTold isRing everySeatStands freshRing zeroRing turnOf
 kept = (record { answer = refl; ring = refl; trail = refl }, refl)

@@ -1,20 +1,18 @@
 -- Demand 1 for a step: each step is answered as document 01's table says, with that answer alone, and a refused one leaves the ring and
 -- every byte of the trail as they came.
 use mathlib.Core.Path.{_≡_, refl, sym, ap, _∙_, subst}
-use mathlib.Core.Bool.{Bool, true, false, true≢false, false≢true}
+use mathlib.Core.Bool.{Bool, true, false, true≢false, false≢true, not-eq-not}
 use mathlib.Core.List.{List}
 use mathlib.Core.Logic.{inl, inr, ⊎-elim}
-use Prim.Native.Nat.{ℕ, zero, suc, _+_, _*_, _/_, _%_, _^_, _≤_, _<_}
-use native.Mathlib.Nat.{pow-suc}
+use Prim.Native.Nat.{ℕ, _+_, _≤_, _<_}
 use native.Mathlib.Omega.{arith}
-use lib.Dec.{leb, ltb, eqb}
+use lib.Dec.{leb, eqb}
 use lib.ListN.{replicate}
-use lib.Pow.{pow-pos, pow-mono, shr-lt, shr-mono, shl-shr}
-use borrow.Author.Tests.{leb-true, leb-false, ltb-true, ltb-false, eqb-true, eqb-false, eq-eqb, ne-eqb, le-leb, lt-leb, not-true, not-false}
+use borrow.Author.Tests.{leb-true, leb-false, eqb-true, eqb-false, eq-eqb, ne-eqb, le-leb, lt-leb, not-true, not-false}
 use Rattle.limits.specs.Refusals.{Told, done, refused}
 use Rattle.lists.proofs.Tests.{both, and-true, and-fails}
 use Rattle.seats.specs.Sets.{hasSeat, fullSet}
-use Rattle.seats.proofs.Sets.{below-full, full-is, none-past}
+use Rattle.seats.proofs.Sets.{below-full, full-is, none-past, past-has}
 use Rattle.ring.specs.Ring.{isRing, ownerOf, zeroRing, freshRing, withCounts, everySeatStands}
 use Rattle.ring.specs.Step.{slotOf, countIn, turnOf}
 use Rattle.ring.specs.Refusals.{told, marksStand, stepTold}
@@ -23,6 +21,7 @@ use Rattle.ring.specs.Trail.{roomFor}
 use Rattle.ring.specs.declared.Ring.{Ring}
 use Rattle.ring.specs.declared.Stepped.{Stepped}
 use Rattle.ring.specs.declared.Answer.the-variants.{Refused}
+use Rattle.ring.proofs.Refusing as checks
 use Rattle.limits.specs.declared.Refusal.the-variants.{NoRoom}
 use Rattle.steps.proofs.Valid.{Valid, ring-valid, valid-ring}
 use Rattle.steps.proofs.Taken.{refused-ring, refused-trail}
@@ -43,37 +42,11 @@ abbrev pub RefusedLeaves : Type 0
 RefusedLeaves = (r : Ring) (send : Bool) (receive : ℕ) (t : List ℕ) (s : Stepped) (t′ : List ℕ) → StepPromise r send receive t s t′
     → (number place : ℕ) → told (s .answer) ≡ refused number place → (s .ring ≡ r) × (t′ ≡ t)
 
--- ---- a mask that reaches past n has a seat past n
-
-below-pow : (s : ℕ) → s < 2 ^ s
-below-pow zero = pow-pos 0
-below-pow (suc s) = let h = below-pow s in let p = pow-suc 2 s in omega arith
-
-seat-past : (k n s : ℕ) → s < 2 ^ (n + k) → 2 ^ n ≤ s → (q : ℕ) × (hasSeat s q ≡ true) × (n ≤ q)
-seat-past zero n s l h = absurd (let e : n + 0 ≡ n = omega arith in let f : s < 2 ^ n = rw e at l in omega arith)
-seat-past (suc k) n s l h =
-    ⊎-elim
-    (λ e. seat-past k n s (ltb-true _ _ e) h)
-    (λ e.
-    let m = n + k in
-    let g : 2 ^ m ≤ s = ltb-false s (2 ^ m) e in
-    let w : n + suc k ≡ 1 + (n + k) = omega arith in
-    let f : s < 2 ^ (1 + (n + k)) = rw w at l in
-    let u : s / 2 ^ m < 2 ^ 1 = shr-lt {n = s} 1 m f in
-    let v : 2 ^ m / 2 ^ m ≤ s / 2 ^ m = shr-mono {a = 2 ^ m} {b = s} m g in
-    let o : 2 ^ m ≡ 1 * 2 ^ m = omega arith in
-    let x : 2 ^ m / 2 ^ m ≡ 1 = ap (λ (y : ℕ). y / 2 ^ m) o ∙ shl-shr 1 m in
-    (m, eq-eqb (s / 2 ^ m % 2) 1 (omega arith), omega arith))
-    (both (ltb s (2 ^ (n + k))))
-
 -- ---- the tests, as the table's words
-
-is-false : (b : Bool) → (b ≡ true → ⊥) → b ≡ false
-is-false b h = ⊎-elim (λ e. absurd (h e)) (λ e. e) (both b)
 
 module _ (r : Ring) (send : Bool) (receive bytes : ℕ) where
   ring-false : (Valid r (roomFor bytes) → ⊥) → isRing r (roomFor bytes) ≡ false
-  ring-false h = is-false (isRing r (roomFor bytes)) (λ e. h (ring-valid r (roomFor bytes) e))
+  ring-false h = not-eq-not .0 (λ e. h (ring-valid r (roomFor bytes) e))
 
   marks-wrong : r .n ≤ 32 → marksStand (r .n) (slotOf r send receive) ≡ false → WrongMark r receive
   marks-wrong h e =
@@ -81,10 +54,8 @@ module _ (r : Ring) (send : Bool) (receive bytes : ℕ) where
       (λ f.
       let l = leb-false receive (fullSet (r .n)) f in
       let g = full-is (r .n) h in
-      let m = pow-mono {i = receive} {j = r .n + receive} (omega arith) in
-      let b = below-pow receive in
-      let q = seat-past receive (r .n) receive (omega arith) (omega arith) in
-      (q .0, q .1, inr (q .2)))
+      let q = past-has receive (r .n) (omega arith) in
+      (q .0, q .1, inr (omega (arith, q .2))))
       (λ f. (ownerOf r, not-false _ f, inl refl))
       (and-fails _ _ e)
 
@@ -98,32 +69,26 @@ module _ (r : Ring) (send : Bool) (receive bytes : ℕ) where
       (w .2)
 
   marks-true : r .n ≤ 32 → (WrongMark r receive → ⊥) → marksStand (r .n) (slotOf r send receive) ≡ true
-  marks-true h n = ⊎-elim (λ e. e) (λ e. absurd (n (marks-wrong h e))) (both (marksStand (r .n) (slotOf r send receive)))
+  marks-true h n = not-eq-not .0 (λ e. n (marks-wrong h e))
 
   marks-false : r .n ≤ 32 → WrongMark r receive → marksStand (r .n) (slotOf r send receive) ≡ false
-  marks-false h w = is-false (marksStand (r .n) (slotOf r send receive)) (λ e. marks-right h e w)
+  marks-false h w = not-eq-not .0 (λ e. marks-right h e w)
 
   -- ---- a row of the table is the answer
 
   only : (a : Told) → Answered r send receive bytes a → a ≡ stepTold r send receive bytes
-  unfolding stepTold
-  only a (not-a-ring h) = rw (ring-false h)
-  only a (wrong-mark v w) = rw (valid-ring r (roomFor bytes) v, marks-false (v .most) w)
-  only a (at-the-end v w e) = rw (valid-ring r (roomFor bytes) v, marks-true (v .most) w, eq-eqb (r .time) 4096 e)
+  only a (not-a-ring h) = sym (checks.no-ring r send receive bytes (ring-false h))
+  only a (wrong-mark v w) = sym (checks.wrong-mark r send receive bytes (valid-ring r (roomFor bytes) v) (marks-false (v .most) w))
+  only a (at-the-end v w e) =
+      sym (checks.at-the-end r send receive bytes (valid-ring r (roomFor bytes) v) (marks-true (v .most) w) (eq-eqb (r .time) 4096 e))
   only a (no-room v w l k) =
-      rw (
-        valid-ring r (roomFor bytes) v,
-        marks-true (v .most) w,
-        ne-eqb (r .time) 4096 (omega arith),
-        lt-leb (r .records + countIn r (slotOf r send receive)) (roomFor bytes) k,
-      )
+      sym
+      (checks.no-room r send receive bytes (valid-ring r (roomFor bytes) v) (marks-true (v .most) w) (ne-eqb (r .time) 4096 (omega arith))
+      (lt-leb (r .records + countIn r (slotOf r send receive)) (roomFor bytes) k))
   only a (taken v w l k) =
-      rw (
-        valid-ring r (roomFor bytes) v,
-        marks-true (v .most) w,
-        ne-eqb (r .time) 4096 (omega arith),
-        le-leb (r .records + countIn r (slotOf r send receive)) (roomFor bytes) (omega arith),
-      )
+      sym
+      (checks.all-checked r send receive bytes (valid-ring r (roomFor bytes) v) (marks-true (v .most) w) (ne-eqb (r .time) 4096 (omega arith))
+      (le-leb (r .records + countIn r (slotOf r send receive)) (roomFor bytes) (omega arith)))
 
   -- ---- and there is a row for every step
 

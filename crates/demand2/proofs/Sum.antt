@@ -10,7 +10,7 @@ use lib.ListN.{length, replicate}
 use borrow.Author.Tests.{eq-eqb, ne-eqb}
 use Rattle.limits.specs.Refusals.{Told, done, refused}
 use Rattle.lists.specs.Counted.{sum}
-use Rattle.lists.proofs.Counted.{sum-same}
+use Rattle.lists.proofs.Counted.{sum-same, sum-plus, sum-const}
 use Rattle.seats.specs.Sets.{sizeOf}
 use Rattle.seats.proofs.Sets.{full-size}
 use Rattle.ring.specs.Ring.{seatOf, freshRing, zeroRing, isRing, everySeatStands}
@@ -28,7 +28,7 @@ use Rattle.steps.proofs.After.{seat-after, room-bytes}
 use Rattle.steps.proofs.Reached.{Stands, fresh-records, fresh-seat, benchAfter, reached-stands, reached-elim, run-reached}
 use Rattle.demand2.specs.Records.{passing, heldBy, recordsBy}
 use Rattle.demand2.specs.Refused.{NoRoom, Answered, not-a-ring, wrong-mark, at-the-end, no-room, taken}
-use Rattle.demand2.proofs.Tally.{sum-plus, sum-const, tally-all, tally-holder, passing-split, passing-before, passing-step}
+use Rattle.demand2.proofs.Tally.{tally-all, tally-holder, passing-split, passing-before, passing-step}
 use Rattle.demand2.proofs.Gone.{turn-size}
 use Rattle.demand2.proofs.Refused.{answers}
 

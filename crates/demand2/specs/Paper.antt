@@ -100,7 +100,7 @@ knowsIn r m sentFalse p = record { arrived = arrived r m p; ackB = ack r (broadc
 -- membership: the same but possibly for p and b
 abbrev pub received : Ring → ℕ → Does → Updated
 received r p d = record {
-  membership = λ q. membership r p q && not (eqb q p && d .itself) && not (eqb q (broadcaster r) && d .broadcaster);
+  membership = λ q. membership r p q && not (d .itself && eqb q p) && not (d .broadcaster && eqb q (broadcaster r));
   ack = d .ack;
 }
 

@@ -1,16 +1,14 @@
 -- Every ring that a run comes to is read as a state of which the model's invariant holds, if the fault terms hold of it. Assumes nothing.
 use mathlib.Core.List.{List}
-use mathlib.Core.Path.{_≡_, refl, sym, ap, _∙_, subst}
-use Prim.Native.Nat.{ℕ, zero, suc, _≤_, _<_}
-use lib.ListN.{getD, replicate}
+use mathlib.Core.Path.{_≡_, sym, ap, _∙_, subst}
+use Prim.Native.Nat.{ℕ, _≤_, _<_}
 use Rattle.seats.specs.Sets.{hasSeat}
 use Rattle.seats.proofs.Sets.{full-has}
-use Rattle.ring.specs.Ring.{seatOf, freshSeat, zeroRing, freshRing}
+use Rattle.ring.specs.Ring.{seatOf, freshSeat, freshRing}
 use Rattle.ring.specs.declared.Ring.{Ring}
 use Rattle.ring.specs.declared.slot.Seat.{Seat}
 use Rattle.steps.specs.Run.{Marks, Bench, Reached}
-use Rattle.steps.proofs.Drawn.{undrawn-seat}
-use Rattle.steps.proofs.Reached.{fresh-n, fresh-seat, benchAfter, reached-elim}
+use Rattle.steps.proofs.Reached.{fresh-n, fresh-seat, fresh-beyond, benchAfter, reached-elim}
 use Rattle.demand3.specs.Model.{Given, Fresh, Terms, step}
 use Rattle.demand3.proofs.Seat.{back-terms}
 use Rattle.demand3.proofs.Kept.{Kept, fresh-kept, step-kept}
@@ -18,18 +16,8 @@ use Rattle.demand3.proofs.View.{stateOf, givenOf, EmptyBeyond, empty-af
 
 -- ---- a fresh ring
 
-all-same : {A : Type 0} (k i : ℕ) (a : A) → getD (replicate k a) i a ≡ a
-all-same zero i a = refl
-all-same (suc k) zero a = refl
-all-same (suc k) (suc i) a = all-same k i a
-
-zero-empty : (p : ℕ) → seatOf zeroRing p .set ≡ 0
-unfolding zeroRing
-zero-empty p = all-same 32 p 0
-
 fresh-empty : (n : ℕ) → EmptyBeyond (freshRing n)
-unfolding freshRing
-fresh-empty n p h = ap (λ (s : Seat). s .set) (undrawn-seat n zeroRing (λ q. freshSeat n) p h) ∙ zero-empty p
+fresh-empty n p h = ap (λ (s : Seat). s .set) (fresh-beyond n p (rw (fresh-n n) at h))
 
 module _ (n : ℕ) (low : 2 ≤ n) (high : n ≤ 32) where
   seat-is : (p : ℕ) → p < freshRing n .n → seatOf (freshRing n) p ≡ freshSeat n

@@ -9,7 +9,7 @@ use Rattle.ring.specs.Refusals.{verdictFound, within}
 use Rattle.ring.specs.declared.Ring.{Ring}
 use Rattle.steps.specs.Run.{Marks, Bench, toldOn, stepOn, Reached}
 use Rattle.steps.specs.Valid.{Valid}
-use Rattle.steps.proofs.Valid.{valid-ring}
+use Rattle.steps.proofs.Valid.{valid-ring, valid-wider}
 use Rattle.steps.proofs.Reached.{benchAfter, step-after, reached-stands}
 use Rattle.demand3.specs.Faults.{FirstFault, Apart, TermsHold}
 use Rattle.demand3.specs.Verdict.{TermsKept}
@@ -38,10 +38,6 @@ module _ (r : Ring) (room : ℕ) (v : Valid r room) where
 
 -- ---- a step before
 
--- the verdict's room is as large as any
-wider : (r : Ring) {room wide : ℕ} → room ≤ wide → Valid r room → Valid r wide
-wider r h v = record { least = v .least; most = v .most; soon = v .soon; fits = omega (arith, v .fits); member = v .member; absent = v .absent }
-
 module _ (n : ℕ) (trail : List ℕ) (low : 2 ≤ n) (high : n ≤ 32) {b : Bench} (run : Reached n trail b) (m : Marks) where
   -- first faults are never forgotten
   remembered : {x f : ℕ} → FirstFault (b .ring) x f → FirstFault (benchAfter m b .ring) x f
@@ -68,5 +64,5 @@ module _ (n : ℕ) (trail : List ℕ) (low : 2 ≤ n) (high : n ≤ 32) {b : Ben
       let v = reached-stands n trail low high run .valid in
       let i : verdictFound (benchAfter m b .ring) ≡ within = ap (λ (c : Bench). verdictFound (c .ring)) (sym (step-after m b e)) ∙ h in
       decides (b .ring) .kept-within
-      (valid-ring (b .ring) roomMost (wider (b .ring) (omega arith) v))
+      (valid-ring (b .ring) roomMost (valid-wider (b .ring) (omega arith) v))
       (λ t l. held t (decides (benchAfter m b .ring) .within-kept i t (omega arith)))

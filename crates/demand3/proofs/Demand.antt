@@ -2,14 +2,14 @@
 -- The argument: specs/Model has the rules over functions of the seats, Seat what a step does to one of them, Invariant what holds along a run; Moves
 -- and the five kinds of step (Sent, Missed, Spoken, Removed, Idle) keep it, by Kept; Agrees reads agreement off it. View shows that the
 -- engine's step is the model's, and Along follows a run; Tested and Decided are the verdict; Read and Before go back to the ring.
-use mathlib.Core.List.{List, [], _∷_, _++_}
+use mathlib.Core.List.{List, [], _∷_}
 use mathlib.Core.Logic.{⊎-elim}
-use mathlib.Core.Path.{_≡_, refl, sym, ap, _∙_}
+use mathlib.Core.Path.{_≡_, sym, ap, _∙_}
 use Prim.Native.Nat.{ℕ, _+_, _≤_}
 use Rattle.ring.specs.Refusals.{verdictFound, within}
 use Rattle.steps.specs.Run.{Marks, Bench, toldOn, stepOn, freshBench, Reached, start, runOn}
 use Rattle.steps.proofs.Taken.{told-is}
-use Rattle.steps.proofs.Reached.{reached-stands, step-refused, run-reached}
+use Rattle.steps.proofs.Reached.{reached-stands, step-refused, run-append, run-reached}
 use Rattle.demand3.specs.Faults.{Apart}
 use Rattle.demand3.specs.Demand.{Agreement, Demand3, HeldBefore}
 use Rattle.demand3.proofs.Agrees.{agrees}
@@ -18,11 +18,6 @@ use Rattle.demand3.proofs.Along.{along}
 use Rattle.demand3.proofs.Decided.{decides}
 use Rattle.demand3.proofs.Read.{agreement}
 use Rattle.demand3.proofs.Before.{apart-of, terms-of, within-before}
-
-run-on : (steps more : List Marks) (b : Bench) → runOn (steps ++ more) b ≡ runOn more (runOn steps b)
-unfolding runOn
-run-on [] more b = refl
-run-on (m ∷ steps) more b = run-on steps more (stepOn m b)
 
 step-reached : {n : ℕ} {trail : List ℕ} {b : Bench} → Reached n trail b → (m : Marks) → Reached n trail (stepOn m b)
 unfolding runOn
@@ -57,7 +52,7 @@ module _ (n : ℕ) (trail : List ℕ) (low : 2 ≤ n) (high : n ≤ 32) where
 
 pub held-before : HeldBefore
 held-before n trail steps more w =
-    let whole = ap (λ (b : Bench). verdictFound (b .ring)) (sym (run-on steps more (freshBench n trail))) ∙ w .terms in
+    let whole = ap (λ (b : Bench). verdictFound (b .ring)) (sym (run-append steps more (freshBench n trail))) ∙ w .terms in
     record {
       least = w .least;
       most = w .most;

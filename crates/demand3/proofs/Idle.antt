@@ -6,9 +6,9 @@ use Prim.Native.Nat.{ℕ, suc, _%_}
 use native.Mathlib.Omega.{arith}
 use lib.Dec.{eqb}
 use borrow.Author.Tests.{eq-eqb}
-use Rattle.lists.proofs.Tests.{both}
+use Rattle.lists.proofs.Tests.{both, same?}
 use Rattle.demand3.specs.Model.{State, Given, hold, Sound, Faulty}
-use Rattle.demand3.proofs.Seat.{same?, role-blind, Still, still, differ, back-sound}
+use Rattle.demand3.proofs.Seat.{role-blind, Still, still, differ, back-sound}
 use Rattle.demand3.proofs.Invariant.{Holds, Active, Latest, gone, alone, active, Pending, Low, NoneSound, Inv, soon}
 use Rattle.demand3.proofs.Moves.{Move, o, later, slot-seat, back-faulty, keeps-sound, out-step, alone-step, alone-ack, passed-step}
 use Rattle.demand3.proofs.Moves.{carry, pending-step, after-quiet}

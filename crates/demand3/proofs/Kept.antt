@@ -7,7 +7,7 @@ use native.Mathlib.Omega.{arith}
 use lib.Dec.{eqb}
 use borrow.Author.Tests.{eqb-true, eqb-false, eq-eqb, ne-eqb, not-true}
 use Rattle.lists.proofs.Tests.{both, and-true}
-use Rattle.demand3.proofs.Found.{found}
+use Rattle.lists.proofs.Found.{found}
 use Rattle.demand3.specs.Model.{State, Given, owner, step, Fresh, Sound, Faulty, Terms}
 use Rattle.demand3.proofs.Seat.{Kind, sound, faulty, kind}
 use Rattle.demand3.proofs.Invariant.{Inv}

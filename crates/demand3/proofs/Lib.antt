@@ -1,6 +1,5 @@
 -- The files that prove demand 3.
 pub mod Slots
-pub mod Found
 pub mod Seat
 pub mod Invariant
 pub mod Moves

@@ -6,9 +6,9 @@ use Prim.Native.Nat.{ℕ, suc, _%_}
 use native.Mathlib.Omega.{arith}
 use lib.Dec.{eqb}
 use borrow.Author.Tests.{eq-eqb, ne-eqb}
-use Rattle.lists.proofs.Tests.{both}
+use Rattle.lists.proofs.Tests.{both, same?}
 use Rattle.demand3.specs.Model.{State, Given, acts, role, arrived, leaves, hold, Sound, Faulty}
-use Rattle.demand3.proofs.Seat.{same?, role-act, act-other, act-owner, differ, back-sound}
+use Rattle.demand3.proofs.Seat.{role-act, act-other, act-owner, differ, back-sound}
 use Rattle.demand3.proofs.Invariant.{Holds, Active, active, Pending, Inv}
 use Rattle.demand3.proofs.Moves.{Move, o, later, sees, Hears, hears, role-sound}
 use Rattle.demand3.proofs.Moves.{starts, calm, up, unmarked, still-sound, was-faulty, first-kin, after-first}

@@ -9,9 +9,9 @@ use native.Mathlib.Nat.{mod-lt}
 use native.Mathlib.Omega.{arith}
 use lib.Dec.{ltb}
 use borrow.Author.Tests.{ltb-true, ltb-false}
-use Rattle.lists.proofs.Tests.{both}
+use Rattle.lists.proofs.Tests.{both, same?}
 use Rattle.demand3.specs.Model.{State, Given, owns, acts, owner, role, arrived, hold, step, Sound, Faulty, Terms}
-use Rattle.demand3.proofs.Seat.{same?, Kind, sound, faulty, kind, differ, stays-faulty, unheld, held}
+use Rattle.demand3.proofs.Seat.{Kind, sound, faulty, kind, differ, stays-faulty, unheld, held}
 use Rattle.demand3.proofs.Seat.{role-own, role-act, role-out, role-blind, still, own-set, act-nobody, agree-stays, agree-keeps, agree-acks}
 use Rattle.demand3.proofs.Invariant.{Holds, Alone, Ahead, Active, Latest, gone, alone, active, Pending, Low, NoneSound, Top, Passed, Inv, soon, settle}
 

@@ -1,44 +1,22 @@
 -- Agreement of the ring, read off the state that the ring is read as. Assumes nothing.
 use mathlib.Core.Bool.{true, false, not}
-use mathlib.Core.Logic.{_⊎_, inl, inr, ⊎-elim}
+use mathlib.Core.Logic.{_⊎_, inl, inr}
 use mathlib.Core.Path.{_≡_, sym, ap, _∙_}
-use Prim.Native.Nat.{ℕ, suc, _-_, _%_, _^_, _<_}
-use native.Mathlib.Nat.{pow-suc, div-self}
+use Prim.Native.Nat.{ℕ, _-_, _^_, _<_}
 use native.Mathlib.Numerals.{add-one}
 use native.Mathlib.Omega.{arith}
 use lib.Dec.{eqb}
-use lib.Pow.{pow-pos, pow-mono}
-use borrow.Author.Tests.{eqb-true, eq-eqb, ne-eqb}
+use lib.Pow.{pow-lt}
+use borrow.Author.Tests.{eqb-true, eq-eqb}
 use Rattle.seats.specs.Sets.{hasSeat}
-use Rattle.seats.proofs.Sets.{nobody-in, same-sets, without-is, without-other}
+use Rattle.seats.proofs.Sets.{same-sets, has-one}
 use Rattle.ring.specs.Ring.{seatOf, out}
 use Rattle.ring.specs.declared.Ring.{Ring}
 use Rattle.steps.specs.Valid.{Valid}
 use Rattle.demand3.specs.Faults.{SoundSeat, FirstFault}
 use Rattle.demand3.specs.Demand.{Agreement}
 use Rattle.demand3.specs.Model.{Sound, Faulty, Agrees}
-use Rattle.demand3.proofs.Seat.{same?}
 use Rattle.demand3.proofs.View.{stateOf}
-
--- ---- the set that holds one seat alone
-
-alone-self : (x : ℕ) → hasSeat (2 ^ x) x ≡ true
-alone-self x = eq-eqb _ _ (ap (λ (k : ℕ). k % 2) (div-self (pow-pos x)))
-
-alone-has : (x q : ℕ) → hasSeat (2 ^ x) q ≡ eqb q x
-alone-has x q =
-    ⊎-elim
-    (λ e. ap (hasSeat (2 ^ x)) e ∙ alone-self x ∙ sym (eq-eqb q x e))
-    (λ n.
-    let z : 2 ^ x - 2 ^ x ≡ 0 = omega arith in
-    sym (without-other (2 ^ x) x q n)
-    ∙ ap (λ (s : ℕ). hasSeat s q) (without-is (2 ^ x) x (alone-self x) ∙ z)
-    ∙ nobody-in q
-    ∙ sym (ne-eqb q x n))
-    (same? q x)
-
-alone-below : (x n : ℕ) → x < n → 2 ^ x < 2 ^ n
-alone-below x n h = omega (arith, pow-mono {i = suc x} {j = n} h, pow-suc 2 x, pow-pos x)
 
 -- ---- sound and faulty seats, of the ring and of the state
 
@@ -80,5 +58,5 @@ module _ (r : Ring) where
         gone x h (inl e) = inl (ap not e)
         gone x h (inr e) =
             inr
-            (same-sets (r .n) (seatOf r x .set) (2 ^ x) (inside h) (alone-below x (r .n) h)
-            (λ q l. e q l ∙ sym (alone-has x q)))
+            (same-sets (r .n) (seatOf r x .set) (2 ^ x) (inside h) (pow-lt h)
+            (λ q l. e q l ∙ sym (has-one x q)))

@@ -3,11 +3,13 @@ use mathlib.Core.Bool.{true, false, not, false≢true}
 use mathlib.Core.Logic.{_⊎_, inl, inr, ⊎-elim}
 use mathlib.Core.Path.{_≡_, refl, sym, _∙_, ap}
 use Prim.Native.Nat.{ℕ, suc, _+_, _<_}
+use native.Mathlib.Nat.{add-mod-right}
 use native.Mathlib.Omega.{arith}
 use borrow.Author.Tests.{eq-eqb, ne-eqb}
-use Rattle.demand3.proofs.Slots.{once, again}
+use Rattle.lists.proofs.Tests.{same?}
+use Rattle.demand3.proofs.Slots.{once}
 use Rattle.demand3.specs.Model.{State, Given, acts, role, speaks, arrived, leaves, drops, learns, hold, Sound, Faulty}
-use Rattle.demand3.proofs.Seat.{same?, role-own, role-act, own-set, act-other, act-owner, stays-faulty, differ, back-sound}
+use Rattle.demand3.proofs.Seat.{role-own, role-act, own-set, act-other, act-owner, stays-faulty, differ, back-sound}
 use Rattle.demand3.proofs.Seat.{deaf-stays, deaf-drops, deaf-acks}
 use Rattle.demand3.proofs.Invariant.{Holds, Latest, gone, alone, active, Pending, Low, Inv, soon}
 use Rattle.demand3.proofs.Moves.{Move, o, later, sees, back-faulty, keeps-sound, out-step, alone-step, passed-now, early, carry, after-quiet}
@@ -120,7 +122,7 @@ module _ (m : Move) where
       is = w .is;
       low = omega (arith, soon now w);
       high = omega arith;
-      next = rw again (keeps-sound m quiet (w .missed));
+      next = rw add-mod-right (keeps-sound m quiet (w .missed));
     }
 
     pub removed : Inv (later m) last false false

@@ -7,12 +7,9 @@ use native.Mathlib.Omega.{arith}
 use lib.Dec.{eqb}
 use borrow.Author.Tests.{eqb-true, eqb-false, eq-eqb, ne-eqb}
 use Rattle.lists.proofs.Tests.{both}
-use Rattle.demand3.proofs.Found.{found}
+use Rattle.lists.proofs.Found.{found}
 use Rattle.demand3.specs.Model.{State, Given, selfGone, ownerGone, newAck, owns, acts, rests, owner, role, leaves, drops, hold, step}
 use Rattle.demand3.specs.Model.{Sound, Faulty, Terms}
-
-pub same? : (p q : ℕ) → (p ≡ q) ⊎ (p ≡ q → ⊥)
-same? p q = ⊎-elim (λ e. inl (eqb-true p q e)) (λ e. inr (eqb-false p q e)) (both (eqb p q))
 
 -- a seat is sound or faulty
 pub data Kind (s : State) (p : ℕ) : Type 0 where

@@ -4,9 +4,10 @@ use mathlib.Core.Logic.{_⊎_, inl, inr, ⊎-elim}
 use mathlib.Core.Path.{_≡_, refl, sym, _∙_}
 use Prim.Native.Nat.{ℕ, suc}
 use native.Mathlib.Omega.{arith}
+use Rattle.lists.proofs.Tests.{same?}
 use Rattle.demand3.proofs.Slots.{OwnSlot, own-slot, once}
 use Rattle.demand3.specs.Model.{State, Given, owns, acts, role, arrived, leaves, hold, Sound, Faulty}
-use Rattle.demand3.proofs.Seat.{SomeSound, some, none, some-sound, same?, role-own, role-act, own-set, act-other, act-owner, differ, back-sound}
+use Rattle.demand3.proofs.Seat.{SomeSound, some, none, some-sound, role-own, role-act, own-set, act-other, act-owner, differ, back-sound}
 use Rattle.demand3.proofs.Invariant.{Holds, Active, active, Low, NoneSound, Inv}
 use Rattle.demand3.proofs.Moves.{Move, o, later, sees, starts, calm, up, was-faulty, first-kin, after-first}
 

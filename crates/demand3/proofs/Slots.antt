@@ -2,7 +2,7 @@
 use mathlib.Core.Logic.{⊎-elim}
 use mathlib.Core.Path.{_≡_, sym, _∙_, ap}
 use Prim.Native.Nat.{ℕ, _+_, _-_, _%_, _≤_, _<_}
-use native.Mathlib.Nat.{mod-lt, mod-eq-of-lt, mod-add-mod, add-mod-left, mod-eq-sub-mod, add-mod-right}
+use native.Mathlib.Nat.{mod-lt, mod-eq-of-lt, mod-add-mod, add-mod-left, mod-eq-sub-mod}
 use native.Mathlib.Omega.{arith}
 use lib.Dec.{leb}
 use borrow.Author.Tests.{leb-true, leb-false}
@@ -63,6 +63,3 @@ once n j k lo hi same =
     wraps h =
         let d : (j % n + (k - j)) - n < n = omega (arith, r) in
         omega (arith, sum, r, mod-eq-sub-mod h, mod-eq-of-lt d)
-
-pub again : (n j : ℕ) → (j + n) % n ≡ j % n
-again n j = add-mod-right j n

@@ -4,10 +4,10 @@ use mathlib.Core.Logic.{⊎-elim}
 use mathlib.Core.Path.{_≡_, refl, sym, _∙_, ap}
 use Prim.Native.Nat.{ℕ, suc, _+_, _<_}
 use native.Mathlib.Omega.{arith}
-use Rattle.lists.proofs.Tests.{both}
+use Rattle.lists.proofs.Tests.{both, same?}
 use Rattle.demand3.proofs.Slots.{once}
 use Rattle.demand3.specs.Model.{State, Given, acts, role, arrived, leaves, drops, learns, hold, Sound, Faulty}
-use Rattle.demand3.proofs.Seat.{same?, role-own, role-act, role-blind, Still, still, act-other, act-owner, act-self, differ, back-sound}
+use Rattle.demand3.proofs.Seat.{role-own, role-act, role-blind, Still, still, act-other, act-owner, act-self, differ, back-sound}
 use Rattle.demand3.proofs.Seat.{low-leaves, deaf-stays, deaf-drops, deaf-acks}
 use Rattle.demand3.proofs.Invariant.{Holds, Active, Latest, gone, alone, active, Pending, Inv}
 use Rattle.demand3.proofs.Moves.{Move, o, later, sees, back-faulty, Hears, hears, role-sound, out-step, alone-step, alone-ack, passed-step}

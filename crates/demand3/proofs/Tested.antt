@@ -8,11 +8,11 @@ use lib.Dec.{leb, ltb, eqb}
 use borrow.Author.Tests.{leb-true, leb-false, le-leb, lt-ltb, ltb-true, ltb-false, eqb-false, ne-eqb, not-true}
 use Rattle.lists.specs.Counted.{countBelow, allBelow}
 use Rattle.lists.proofs.Tests.{both, and-true, and-of, all-at, all-from}
+use Rattle.lists.proofs.Found.{two-counted, counted-two}
 use Rattle.ring.specs.Ring.{seatOf}
 use Rattle.ring.specs.Terms.{faultyBy, distance, apartBy, termsHold}
 use Rattle.ring.specs.declared.Ring.{Ring}
 use Rattle.demand3.specs.Faults.{FirstFault, Apart, SoundAfter, TwoSound, TermsHold}
-use Rattle.demand3.proofs.Found.{two-counted, counted-two}
 
 -- ---- the test of two seats: are they one, is each faulty by the step, are the first faults far enough
 

@@ -1,30 +1,28 @@
 -- The engine's ring read as a state of the model, and the engine's step as the model's. Assumes nothing.
-use mathlib.Core.Bool.{Bool, true, false, cond, not, _&&_, and-true, and-false, and-comm, Bool·not-not}
+use mathlib.Core.Bool.{Bool, true, false, not, _&&_, and-comm}
 use mathlib.Core.Logic.{⊎-elim}
 use mathlib.Core.Path.{_≡_, refl, sym, ap, _∙_, subst}
 use Prim.Native.Nat.{ℕ, zero, suc, _≤_}
 use native.Mathlib.Numerals.{add-one}
 use native.Mathlib.Omega.{arith}
 use lib.Dec.{eqb, ltb}
-use borrow.Author.Tests.{eq-eqb, ne-eqb, ltb-true, ltb-false}
+use borrow.Author.Tests.{ne-eqb, ltb-true, ltb-false}
 use Rattle.lists.proofs.Tests.{both}
-use Rattle.seats.specs.Sets.{hasSeat, withoutSeat}
-use Rattle.seats.proofs.Sets.{nobody-in, without-same, without-other}
+use Rattle.seats.specs.Sets.{hasSeat}
+use Rattle.seats.proofs.Sets.{nobody-in}
 use Rattle.ring.specs.Ring.{seatOf}
-use Rattle.ring.specs.Table.{decided, goneBy, withoutAll}
+use Rattle.ring.specs.Table.{Row, table, arrived, bitOf, decided}
 use Rattle.ring.specs.Step.{slotOf, viewOf, misses, faultAfter, ownerTurn, otherTurn, turnOf, ringAfter}
 use Rattle.ring.specs.declared.Ring.{Ring}
 use Rattle.ring.specs.declared.slot.Seat.{Seat}
 use Rattle.ring.specs.declared.slot.Slot.{Slot}
-use Rattle.ring.specs.declared.table.View.{View}
-use Rattle.ring.specs.declared.table.View.the-variants.{Silent, Missed, Heard}
-use Rattle.ring.specs.declared.table.Removal.{Removal}
-use Rattle.ring.specs.declared.table.Removal.the-variants.{Nobody, Itself, Owner, Both}
+use Rattle.steps.proofs.Gone.{takesItself, takesOwner, gone-has}
+use Rattle.steps.proofs.Seen.{speaks-is, view-table}
 use Rattle.steps.proofs.Turn.{turn-elim}
 use Rattle.steps.proofs.After.{seat-after, seat-beyond}
 use Rattle.demand3.specs.Model.{State, Given, selfGone, ownerGone, newAck, first, owns, acts, rests, role}
 use Rattle.demand3.specs.Model.{speaks, leaves, drops, learns, hold, left, step}
-use Rattle.demand3.proofs.Seat.{same?, role-own, role-act, role-out, role-blind, Still, still}
+use Rattle.demand3.proofs.Seat.{role-own, role-act, role-out, role-blind, Still, still}
 
 abbrev pub stateOf : Ring → State
 stateOf r = record {
@@ -40,57 +38,22 @@ stateOf r = record {
 abbrev pub givenOf : Ring → Bool → ℕ → Given
 givenOf r send receive = record { now = stateOf r; send = send; receive = hasSeat receive }
 
--- ---- the set after a removal
-
--- does a removal take the seat itself, and does it take the owner
-abbrev itself : Removal → Bool
-itself Nobody = false
-itself (Itself c) = true
-itself (Owner c) = false
-itself (Both c d) = true
-
-abbrev owners : Removal → Bool
-owners Nobody = false
-owners (Itself c) = false
-owners (Owner c) = true
-owners (Both c d) = true
-
-without-has : (set j q : ℕ) → hasSeat (withoutSeat set j) q ≡ (hasSeat set q && not (eqb q j))
-without-has set j q =
-    ⊎-elim
-    (λ e. ap (hasSeat (withoutSeat set j)) e ∙ without-same set j ∙ sym (rw (eq-eqb q j e) (and-false (hasSeat set q))))
-    (λ n. without-other set j q n ∙ sym (rw (ne-eqb q j n) (and-true (hasSeat set q))))
-    (same? q j)
-
-gone-has : (set p b q : ℕ) (k : Removal)
-    → hasSeat (withoutAll set (goneBy p b k)) q ≡ (hasSeat set q && not (itself k && eqb q p) && not (owners k && eqb q b))
-gone-has set p b q Nobody = rw (and-true (hasSeat set q), and-true (hasSeat set q))
-gone-has set p b q (Itself c) = without-has set p q ∙ sym (and-true _)
-gone-has set p b q (Owner c) = without-has set b q ∙ sym (ap (λ (x : Bool). x && not (eqb q b)) (and-true (hasSeat set q)))
-gone-has set p b q (Both c d) = without-has (withoutSeat set p) b q ∙ ap (λ (x : Bool). x && not (eqb q b)) (without-has set p q)
-
 -- ---- the table
 
--- what a seat sees, by whether the owner speaks, whether the seat has a receive mark, and the bit
-abbrev seen : Bool → Bool → Bool → View
-seen speaks marked bit = cond speaks (cond marked Missed (Heard bit)) Silent
-
-abbrev says : Removal → Bool → Bool × Bool × Bool
-says k ack = (itself k, owners k, ack)
+-- whom a row removes, and its new ack
+abbrev says : Row → Bool × Bool × Bool
+says x = (takesItself (x .removed), takesOwner (x .removed), x .ack)
 
 -- the engine's table is the model's
-rows : (speaks marked bit ack doubt : Bool)
-    → says (decided (seen speaks marked bit) ack doubt .removal) (decided (seen speaks marked bit) ack doubt .ack)
-    ≡ (selfGone (speaks && not marked) bit ack doubt, ownerGone (speaks && not marked) bit ack doubt, newAck (speaks && not marked) bit ack)
-rows true true bit true doubt = refl
-rows true true bit false doubt = refl
-rows true false true true doubt = refl
-rows true false true false doubt = refl
-rows true false false true true = refl
-rows true false false true false = refl
-rows true false false false doubt = refl
-rows false marked bit true doubt = refl
-rows false marked bit false doubt = refl
+rows : (arrived bit ack doubt : Bool)
+    → says (table arrived bit ack doubt) ≡ (selfGone arrived bit ack doubt, ownerGone arrived bit ack doubt, newAck arrived bit ack)
+rows true true true doubt = refl
+rows true true false doubt = refl
+rows true false true true = refl
+rows true false true false = refl
+rows true false false doubt = refl
+rows false bit true doubt = refl
+rows false bit false doubt = refl
 
 -- ---- first faults
 
@@ -120,9 +83,6 @@ module _ (r : Ring) (send : Bool) (receive : ℕ) where
   abbrev t : Given
   t = givenOf r send receive
 
-  speaks-is : slot .speaks ≡ speaks t
-  speaks-is = ap (λ (x : Bool). x && not send) (Bool·not-not (hasSeat (seatOf r (slot .owner) .set) (slot .owner)))
-
   module _ (p : ℕ) where
     abbrev s : Seat
     s = seatOf r p
@@ -147,15 +107,12 @@ module _ (r : Ring) (send : Bool) (receive : ℕ) where
           fault = first-is send (r .time) (s .fault) ∙ ap (λ (x : Bool). first x (r .time) (s .fault)) (sym h);
         }
 
-    row : says (decided (viewOf slot p) (s .ack) (s .doubt) .removal) (decided (viewOf slot p) (s .ack) (s .doubt) .ack)
-        ≡ (leaves t p, drops t p, learns t p)
+    row : says (table (arrived (viewOf slot p)) (bitOf (viewOf slot p)) (s .ack) (s .doubt)) ≡ (leaves t p, drops t p, learns t p)
     row =
-        rows (slot .speaks) (hasSeat receive p) (slot .bit) (s .ack) (s .doubt)
-        ∙ ap
-        (λ (x : Bool).
-        let a = x && not (hasSeat receive p) in
-        (selfGone a (slot .bit) (s .ack) (s .doubt), ownerGone a (slot .bit) (s .ack) (s .doubt), newAck a (slot .bit) (s .ack)))
-        speaks-is
+        ap says
+        (view-table (slot .speaks) (hasSeat receive p) (slot .bit) (s .ack) (s .doubt)
+        ∙ ap (λ (x : Bool). table (x && not (hasSeat receive p)) (slot .bit) (s .ack) (s .doubt)) (speaks-is r send receive))
+        ∙ rows (speaks t && not (hasSeat receive p)) (slot .bit) (s .ack) (s .doubt)
 
     acting : role t p ≡ acts → Matches t p (otherTurn slot p s .seat)
     acting o =
@@ -173,7 +130,7 @@ module _ (r : Ring) (send : Bool) (receive : ℕ) where
           doubt = cc;
           fault = first-is (misses slot p) (r .time) (s .fault)
               ∙ ap (λ (x : Bool). first x (r .time) (s .fault))
-              (ap (λ (x : Bool). x && hasSeat receive p) speaks-is ∙ and-comm (speaks t) (hasSeat receive p) ∙ sym h);
+              (ap (λ (x : Bool). x && hasSeat receive p) (speaks-is r send receive) ∙ and-comm (speaks t) (hasSeat receive p) ∙ sym h);
         }
 
     matches : Matches t p (turnOf slot p s .seat)

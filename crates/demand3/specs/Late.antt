@@ -9,7 +9,8 @@ use Rattle.ring.specs.Ring.{seatOf}
 use Rattle.ring.specs.declared.Ring.{Ring}
 use Rattle.demand3.specs.Faults.{SoundSeat, FirstFault}
 use Rattle.demand3.specs.Demand.{Agreement, RunWithin}
-use Rattle.demand3.specs.Runs.{Run, beforeOwn, afterOwn, beforeOut, afterOut, quiet, seatsIn, stepsOf, trailOfRun, lastRing}
+use Rattle.steps.specs.Run.{quiet}
+use Rattle.demand3.specs.Runs.{Run, beforeOwn, afterOwn, beforeOut, afterOut, seatsIn, stepsOf, trailOfRun, lastRing}
 
 -- where k is the first own slot of seat x from its first fault t on, x is in a sound seat's set up to slot k, and no longer
 abbrev pub RemovedInOwnSlot : Type 0

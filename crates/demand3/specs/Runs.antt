@@ -1,7 +1,7 @@
 -- Runs that show that no part of demand 3 is empty, that the fault terms are tight, and how late a removal can be; each with what comes of it.
 use mathlib.Core.Bool.{Bool, true, false}
 use mathlib.Core.List.{List, [], _∷_}
-use Prim.Native.Nat.{ℕ, _-_, _^_}
+use Prim.Native.Nat.{ℕ, _-_}
 use lib.ListN.{replicate}
 use Rattle.lists.specs.Counted.{tab, allBelow}
 use Rattle.ring.specs.Ring.{seatOf}
@@ -9,17 +9,7 @@ use Rattle.ring.specs.Terms.{apartBy}
 use Rattle.ring.specs.Refusals.{Finding, within, outside, verdictFound}
 use Rattle.ring.specs.declared.Ring.{Ring}
 use Rattle.ring.specs.declared.slot.Seat.{Seat}
-use Rattle.steps.specs.Run.{Marks, freshBench, runOn}
-
--- a step without marks, with a send mark, with a receive mark for one seat
-abbrev pub quiet : Marks
-quiet = record { send = false; receive = 0 }
-
-abbrev sendFault : Marks
-sendFault = record { send = true; receive = 0 }
-
-abbrev missedBy : ℕ → Marks
-missedBy p = record { send = false; receive = 2 ^ p }
+use Rattle.steps.specs.Run.{Marks, quiet, sendFault, missedBy, freshBench, runOn}
 
 pub data Run : Type 0 where
   -- of document 01: n = 4, seat 3 misses time 0, send fault of 1 at time 5, five apart; and three steps more

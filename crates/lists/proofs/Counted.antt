@@ -4,7 +4,7 @@ use mathlib.Core.Bool.{Bool, true, false, cond}
 use mathlib.Core.List.{List, [], _∷_, _++_, append-nil, append-assoc}
 use mathlib.Core.Logic.{_⊎_, inl, inr, ⊎-elim}
 use Prim.Native.Nat.{ℕ, zero, suc, _+_, _-_, _*_, _≤_, _<_}
-use native.Mathlib.Nat.{add-zero, add-suc, le-refl, mul-add, mul-suc, mul-zero}
+use native.Mathlib.Nat.{add-zero, add-suc, le-refl, mul-add, mul-suc, mul-zero, zero-mul}
 use native.Mathlib.Numerals.{add-one}
 use native.Mathlib.Decide.{decLt}
 use native.Mathlib.Omega.{arith}
@@ -20,6 +20,15 @@ below-last i k h = go (decLt i k)
     go : Dec (i < k) → (i < k) ⊎ (i ≡ k)
     go (yes l) = inl l
     go (no n) = inr (omega arith)
+
+-- numbers of which none is below the one before it: none is below any before it
+pub rising : (f : ℕ → ℕ) (k : ℕ) → ((i : ℕ) → suc i < k → f i ≤ f (suc i)) → (i j : ℕ) → i ≤ j → j < k → f i ≤ f j
+rising f k h i zero l m = rw (le-zero l) (le-refl (f 0))
+rising f k h i (suc j) l m =
+    ⊎-elim
+    (λ n. let a = rising f k h i j (omega arith) (omega arith) in let b = h j m in omega arith)
+    (λ e. rw e (le-refl (f (suc j))))
+    (below-last i (suc j) (omega arith))
 
 -- ---- tab
 
@@ -87,6 +96,12 @@ drawn-alike x k p h =
     go i l (yes b) = drawn-below p (λ q. x) (replicate k x) x i b ∙ sym (getD-replicate k i x x l)
     go i l (no b) = drawn-above p (λ q. x) (replicate k x) x i (omega arith)
 
+-- and so is what stands past the end of such a list
+pub getD-alike : {A : Type 0} (k i : ℕ) (x : A) → getD (replicate k x) i x ≡ x
+getD-alike zero i x = refl
+getD-alike (suc k) zero x = refl
+getD-alike (suc k) (suc i) x = getD-alike k i x
+
 -- ---- joined
 
 pub joined-more : {A : Type 0} (f : ℕ → List A) (k : ℕ) → joined (k + 1) f ≡ joined k f ++ f k
@@ -111,12 +126,7 @@ sum-times c f (suc k) = ap (λ (x : ℕ). x + c * f k) (sum-times c f k) ∙ sym
 
 -- the sum grows with its count
 pub sum-le : (f : ℕ → ℕ) (j k : ℕ) → j ≤ k → sum j f ≤ sum k f
-sum-le f j zero h = rw (le-zero h) (le-refl 0)
-sum-le f j (suc k) h =
-    ⊎-elim
-    (λ l. let r = sum-le f j k (omega arith) in omega arith)
-    (λ e. rw e (le-refl (sum (suc k) f)))
-    (below-last j (suc k) (omega arith))
+sum-le f j k h = rising (λ i. sum i f) (suc k) (λ i l. omega arith) j k h (omega arith)
 
 -- and with its terms
 pub sum-mono : (f g : ℕ → ℕ) (k : ℕ) → ((i : ℕ) → i < k → f i ≤ g i) → sum k f ≤ sum k g
@@ -137,3 +147,23 @@ count-le test k = let r = sum-at-most (λ i. cond (test i) 1 0) 1 k (λ i l. one
 pub sum-split : (f : ℕ → ℕ) (a b : ℕ) → sum (a + b) f ≡ sum a f + sum b (λ i. f (a + i))
 sum-split f a zero = ap (λ (x : ℕ). sum x f) (add-zero a) ∙ sym (add-zero (sum a f))
 sum-split f a (suc b) = ap (λ (x : ℕ). sum x f) (add-suc a b) ∙ let r = sum-split f a b in omega arith
+
+pub sum-plus : (f g : ℕ → ℕ) (k : ℕ) → sum k f + sum k g ≡ sum k (λ i. f i + g i)
+sum-plus f g zero = refl
+sum-plus f g (suc k) = let a = sum-plus f g k in omega arith
+
+pub sum-const : (c k : ℕ) → sum k (λ i. c) ≡ c * k
+sum-const c zero = sym (mul-zero c)
+sum-const c (suc k) = let a = sum-const c k in let b = mul-suc c k in omega arith
+
+pub sum-zero : (f : ℕ → ℕ) (k : ℕ) → ((i : ℕ) → i < k → f i ≡ 0) → sum k f ≡ 0
+sum-zero f k h = sum-same f (λ i. 0) k h ∙ sum-const 0 k ∙ zero-mul k
+
+-- a sum of which one term alone is not 0
+pub sum-only : (f : ℕ → ℕ) (k p : ℕ) → p < k → ((i : ℕ) → (i ≡ p → ⊥) → f i ≡ 0) → sum k f ≡ f p
+sum-only f zero p l h = absurd (omega arith)
+sum-only f (suc k) p l h =
+    ⊎-elim
+    (λ m. let a = sum-only f k p m h in let b = h k (omega arith) in omega arith)
+    (λ e. let a = sum-zero f k (λ i m. h i (omega arith)) in let b = ap f e in omega arith)
+    (below-last p k l)

@@ -6,25 +6,30 @@ use Prim.Native.Nat.{ℕ, zero, suc, _+_, _≤_, _<_}
 use native.Mathlib.Nat.{le-refl}
 use native.Mathlib.Numerals.{add-one}
 use native.Mathlib.Omega.{arith}
-use lib.Dec.{ltb}
-use borrow.Author.Tests.{lt-ltb, le-ltb, ltb-true, ltb-false}
+use lib.Dec.{ltb, eqb}
+use borrow.Author.Tests.{lt-ltb, le-ltb, ltb-true, ltb-false, eqb-true, eqb-false, eq-eqb, ne-eqb}
 use Rattle.lists.specs.Counted.{allBelow, firstBelow}
 use Rattle.lists.proofs.Counted.{below-last}
+pub use mathlib.Core.Bool.{and-false}
 
 -- a Bool is one of the two, with the equation
 pub both : (b : Bool) → (b ≡ true) ⊎ (b ≡ false)
 both true = inl refl
 both false = inr refl
 
+-- two numbers are one, or not
+pub same? : (p q : ℕ) → (p ≡ q) ⊎ (p ≡ q → ⊥)
+same? p q = ⊎-elim (λ e. inl (eqb-true p q e)) (λ e. inr (eqb-false p q e)) (both (eqb p q))
+
+pub eqb-sym : (p q : ℕ) → eqb p q ≡ eqb q p
+eqb-sym p q =
+    ⊎-elim (λ e. eq-eqb p q e ∙ sym (eq-eqb q p (sym e))) (λ n. ne-eqb p q n ∙ sym (ne-eqb q p (λ e. n (sym e)))) (same? p q)
+
 -- ---- and
 
 pub and-true : (a b : Bool) → (a && b) ≡ true → (a ≡ true) × (b ≡ true)
 and-true true b e = (refl, e)
 and-true false b e = absurd (false≢true e)
-
-pub and-false : (a : Bool) → (a && false) ≡ false
-and-false true = refl
-and-false false = refl
 
 pub and-of : {a b : Bool} → a ≡ true → b ≡ true → (a && b) ≡ true
 and-of p q = rw (p, q)

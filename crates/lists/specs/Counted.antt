@@ -1,5 +1,5 @@
--- What a count builds: lists, sums, and tests of every number below it.
-use mathlib.Core.Bool.{Bool, true, cond, _&&_}
+-- What a count builds: lists, sums, and tests of the numbers below it.
+use mathlib.Core.Bool.{Bool, true, false, cond, _&&_, _||_}
 use mathlib.Core.List.{List, [], _∷_, _++_}
 use Prim.Native.Nat.{ℕ, zero, suc, _+_}
 use lib.Dec.{ltb}
@@ -27,6 +27,11 @@ countBelow k test = sum k (λ i. cond (test i) 1 0)
 abbrev pub allBelow : ℕ → (ℕ → Bool) → Bool
 allBelow zero test = true
 allBelow (suc k) test = allBelow k test && test k
+
+-- some number below k passes the test
+abbrev pub anyBelow : ℕ → (ℕ → Bool) → Bool
+anyBelow zero test = false
+anyBelow (suc k) test = anyBelow k test || test k
 
 -- the first number below k that passes the test, and k where none does
 abbrev pub firstBelow : ℕ → (ℕ → Bool) → ℕ

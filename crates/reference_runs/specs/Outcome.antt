@@ -1,7 +1,7 @@
 -- What a run is given, and what comes of it by the engine's and the reader's own definitions.
-use mathlib.Core.Bool.{Bool, true, false, cond}
+use mathlib.Core.Bool.{Bool, cond}
 use mathlib.Core.List.{List, [], _∷_}
-use Prim.Native.Nat.{ℕ, _*_, _^_}
+use Prim.Native.Nat.{ℕ, _*_}
 use lib.ListN.{take, replicate}
 use Rattle.limits.specs.Refusals.{Told}
 use Rattle.lists.specs.Counted.{tab, joined}
@@ -12,16 +12,6 @@ use Rattle.ring.specs.Refusals.{Finding, verdictFound}
 use Rattle.ring.specs.declared.Ring.{Ring}
 use Rattle.sheet.specs.Sheets.{sheetIn, toldOf}
 use Rattle.steps.specs.Run.{Marks, Bench, freshBench, runOn}
-
--- the steps of the runs: no mark, a send mark for the owner, a receive mark for one seat
-abbrev pub quiet : Marks
-quiet = record { send = false; receive = 0 }
-
-abbrev pub sendFault : Marks
-sendFault = record { send = true; receive = 0 }
-
-abbrev pub missedBy : ℕ → Marks
-missedBy p = record { send = false; receive = 2 ^ p }
 
 -- a ring of n seats with the marks of its steps, or a sheet's bytes
 pub data Given : Type 0 where

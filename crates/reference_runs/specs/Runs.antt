@@ -8,7 +8,8 @@ use Rattle.ring.specs.Refusals.{within, outside}
 use Rattle.ring.specs.declared.table.Cause.{Cause}
 use Rattle.ring.specs.declared.table.Cause.the-variants.{A, B, C, D, E}
 use Rattle.limits.specs.Refusals.{refused}
-use Rattle.reference_runs.specs.Outcome.{quiet, sendFault, missedBy, Given, stepped, read, Held, Outcome, came, told}
+use Rattle.steps.specs.Run.{quiet, sendFault, missedBy}
+use Rattle.reference_runs.specs.Outcome.{Given, stepped, read, Held, Outcome, came, told}
 
 pub record Run : Type 0 where
   pub given : Given

@@ -1,27 +1,30 @@
 -- The marks gathered on the way are those that document 01 gives the slot, since the marks of a good sheet ascend by time. Assumes nothing.
 use mathlib.Core.Path.{_≡_, sym, ap, ap₂, _∙_}
-use mathlib.Core.Bool.{Bool, true, false, _&&_, _||_}
+use mathlib.Core.Bool.{Bool, true, false, not, _&&_, and-comm, _||_}
 use mathlib.Core.Logic.{_⊎_, inl, inr, ⊎-elim}
-use Prim.Native.Nat.{ℕ, zero, suc, _+_, _-_, _^_, _≤_, _<_}
+use Prim.Native.Nat.{ℕ, suc, _+_, _^_, _≤_, _<_}
 use native.Mathlib.Nat.{le-refl}
 use native.Mathlib.Omega.{arith}
 use lib.Dec.{leb, ltb, eqb}
 use lib.Bits.{bitOr, or-lt}
 use lib.Pow.{pow-pos}
 use borrow.Author.Tests.{ltb-true, eqb-true, eqb-false, eq-eqb, ne-eqb, le-leb, lt-leb}
-use Rattle.lists.proofs.Tests.{both, and-true}
-use Rattle.seats.specs.Sets.{hasSeat, withoutSeat}
-use Rattle.seats.proofs.Sets.{nobody-in, same-sets, without-le, without-same, without-other}
+use Rattle.lists.specs.Counted.{anyBelow}
+use Rattle.lists.proofs.Counted.{rising}
+use Rattle.lists.proofs.Tests.{both, and-true, eqb-sym}
+use Rattle.lists.proofs.Any.{any-more, any-same, any-none, any-up-to, any-or}
+use Rattle.seats.specs.Sets.{hasSeat}
+use Rattle.seats.specs.Joined.{added, seatsWith}
+use Rattle.seats.proofs.Sets.{nobody-in, same-sets, without-le, without-has}
+use Rattle.seats.proofs.Joined.{has-or, has-added, added-below, with-below, has-with}
 use Rattle.sheet.specs.Bytes.{send, receive, dark}
 use Rattle.sheet.specs.Marks.{above}
 use Rattle.sheet.specs.Good.{markOf, GoodSheet}
 use Rattle.sheet.specs.declared.Mark.{Mark}
 use Rattle.sheet.specs.declared.Sheet.{Sheet}
-use Rattle.run.specs.Marks.{anyBelow, says, darkens, ownerAt, receiveMark, seatsWith, marksAt}
-use Rattle.run.specs.Inside.{noneGathered, added, withMark, slotOver, givenBy}
+use Rattle.run.specs.Marks.{says, darkens, ownerAt, receiveMark, marksAt}
+use Rattle.run.specs.Inside.{noneGathered, withMark, slotOver, givenBy}
 use Rattle.run.specs.declared.marks.Gathered.{Gathered}
-use Rattle.run.proofs.Any.{any-more, any-same, any-none, any-up-to, any-or}
-use Rattle.run.proofs.Joined.{has-or, has-added, added-below, with-below, has-with}
 
 -- ---- the marks ascend
 
@@ -33,18 +36,9 @@ above-later last m e =
     (both (ltb (last .time) (m .time)))
 
 module _ (sheet : Sheet) (good : GoodSheet sheet) where
-  later : (i d : ℕ) → d + i < sheet .«mark_count» → markOf sheet i .time ≤ markOf sheet (d + i) .time
-  later i zero l = let e : 0 + i ≡ i = omega arith in rw e (le-refl (markOf sheet i .time))
-  later i (suc d) l =
-      let e : suc d + i ≡ suc (d + i) = omega arith in
-      let h = later i d (omega arith) in
-      let a = above-later (markOf sheet (d + i)) (markOf sheet (suc (d + i))) (good .ascending (d + i) (omega arith)) in
-      rw e (omega arith)
-
-  pub later-mark : (i j : ℕ) → i ≤ j → j < sheet .«mark_count» → markOf sheet i .time ≤ markOf sheet j .time
-  later-mark i j l h =
-      let e : j - i + i ≡ j = omega arith in
-      rw e at (later i (j - i) (omega arith))
+  later-mark : (i j : ℕ) → i ≤ j → j < sheet .«mark_count» → markOf sheet i .time ≤ markOf sheet j .time
+  later-mark =
+      rising (λ i. markOf sheet i .time) (sheet .«mark_count») (λ i l. above-later (markOf sheet i) (markOf sheet (suc i)) (good .ascending i l))
 
 -- ---- what is gathered
 
@@ -80,7 +74,8 @@ none-yet sheet =
 -- a mark adds its seat to the set of its kind
 adds : (set next seat : ℕ) (marked : Bool) (p : ℕ) (test : ℕ → Bool) → hasSeat set p ≡ anyBelow next test → test next ≡ (marked && eqb seat p)
     → hasSeat (added set seat marked) p ≡ anyBelow (next + 1) test
-adds set next seat marked p test h e = has-added set seat marked p ∙ ap₂ (λ (a b : Bool). a || b) h (sym e) ∙ sym (any-more test next)
+adds set next seat marked p test h e =
+    has-added set seat marked p ∙ ap₂ (λ (a b : Bool). a || b) h (ap (λ (b : Bool). marked && b) (eqb-sym p seat) ∙ sym e) ∙ sym (any-more test next)
 
 module _ (sheet : Sheet) (good : GoodSheet sheet) (t : ℕ) (g : Gathered) (so : Gathers sheet t g) where
   pub mark-more : g .next < sheet .«mark_count» → markOf sheet (g .next) .time ≡ t → Gathers sheet t (withMark g (markOf sheet (g .next)))
@@ -154,10 +149,8 @@ module _ (sheet : Sheet) (good : GoodSheet sheet) (t : ℕ) (g : Gathered) (so :
     has-receive p =
         let b = ownerAt sheet t in
         let s = bitOr (g .receive) (g .dark) in
-        ⊎-elim
-        (λ e. rw e (ap (hasSeat (withoutSeat s b)) (eqb-true p b e) ∙ without-same s b))
-        (λ e. rw e (without-other s b p (eqb-false p b e) ∙ has-mark (g .receive) receive p (so .receives p)))
-        (both (eqb p b))
+        without-has s b p ∙ and-comm (hasSeat s p) (not (eqb p b))
+        ∙ ap (λ (x : Bool). not (eqb p b) && x) (has-mark (g .receive) receive p (so .receives p))
 
     pub receive-given : givenBy g (ownerAt sheet t) .receive ≡ marksAt sheet t .receive
     unfolding marksAt

@@ -55,9 +55,6 @@ module _ (bytes : List ℕ) (r : Reading) (p : ReadPromise bytes r) where
       go (found sheet end) q a s = (end, q ∙ ap (λ (x : Sheet). found x end) (sym s))
       go (offence why place) q a s = absurd (not-done (sym a ∙ ap told e))
 
-  pub sheet-good : r .answer ≡ Read → GoodSheet (r .sheet)
-  sheet-good e = let f = read-found e in read-good bytes (r .sheet) (f .0) (f .1)
-
   -- a sheet that is read is run
   pub keeps-read : (t : List ℕ) (x : Ran) (t′ : List ℕ) → r .answer ≡ Read → Leaves (runSheet (r .sheet) t) x t′ → RunPromise bytes t x t′
   keeps-read t x t′ e l = keeps bytes t x t′ (subst (λ (y : Result). Leaves y x t′) (sym (run-read bytes t (read-found e .1))) l)

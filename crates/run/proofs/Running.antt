@@ -1,8 +1,7 @@
 -- The run of a sheet from a slot on: how it ends there or goes on, and that what is left comes to the same as all did. Assumes nothing.
 use mathlib.Core.Path.{_≡_, refl, sym, ap, ap₂, _∙_}
-use mathlib.Core.Bool.{Bool, true, false, cond, not, _&&_}
+use mathlib.Core.Bool.{Bool, true, false, cond}
 use mathlib.Core.List.{List}
-use mathlib.Core.Logic.{⊎-elim}
 use Prim.Native.Nat.{ℕ, zero, suc, _+_, _-_, _%_, _≤_, _<_}
 use native.Mathlib.Omega.{arith}
 use lib.Dec.{eqb}
@@ -15,18 +14,16 @@ use Rattle.ring.specs.Refusals.{told}
 use Rattle.ring.specs.Promise.{FreshPromise, StepPromise}
 use Rattle.ring.specs.declared.Ring.{Ring}
 use Rattle.ring.specs.declared.Stepped.{Stepped}
-use Rattle.seats.specs.Sets.{hasSeat}
 use Rattle.steps.specs.Run.{Marks, Bench, toldOn, stepOn, freshBench}
-use Rattle.steps.proofs.Taken.{told-is, told-taken}
-use Rattle.steps.proofs.After.{length-after, room-bytes}
-use Rattle.steps.proofs.Reached.{fresh-n, fresh-time, step-after, step-refused}
+use Rattle.steps.proofs.Seen.{speaks-is}
+use Rattle.steps.proofs.Reached.{fresh-n, fresh-time, step-after, step-refused, step-length}
 use Rattle.sheet.specs.Bytes.{heardOne, heardZero, heardSilence}
 use Rattle.sheet.specs.Good as sheets
 use Rattle.sheet.specs.Good.{GoodSheet}
 use Rattle.sheet.specs.declared.Sheet.{Sheet}
 use Rattle.run.specs.Marks.{ownerAt, marksAt}
 use Rattle.run.specs.Outcome.{agrees, differs, Outcome, refused, Result}
-use Rattle.run.specs.Run.{spokenOn, ends, judged, runFrom, runSheet}
+use Rattle.run.specs.Run.{spokenOn, ends, judged, onTold, runFrom, runSheet}
 use Rattle.run.specs.Inside.{noneGathered, withMark, slotOver, givenBy, spokenBy, Ended, Leaves}
 use Rattle.run.specs.declared.Ran.{Ran}
 use Rattle.run.specs.declared.marks.Gathered.{Gathered}
@@ -50,34 +47,22 @@ unfolding runFrom
 run-ends sheet b = refl
 
 module _ (sheet : Sheet) (b : Bench) (left : ℕ) where
-  pub run-differs : eqb (spokenOn (marksOn sheet b) b) (heardOn sheet b) ≡ false → runFrom (suc left) sheet b ≡ judged sheet b (differs (b .ring .time))
+  run-slot : runFrom (suc left) sheet b
+      ≡ cond (eqb (spokenOn (marksOn sheet b) b) (heardOn sheet b))
+      (onTold (toldOn (marksOn sheet b) b) (runFrom left sheet (stepOn (marksOn sheet b) b)) (λ number place. ends sheet b (refused number place)))
+      (judged sheet b (differs (b .ring .time)))
   unfolding runFrom
-  run-differs e = rw e
+  run-slot = refl
+
+  pub run-differs : eqb (spokenOn (marksOn sheet b) b) (heardOn sheet b) ≡ false → runFrom (suc left) sheet b ≡ judged sheet b (differs (b .ring .time))
+  run-differs e = run-slot ∙ rw e
 
   module _ (same : eqb (spokenOn (marksOn sheet b) b) (heardOn sheet b) ≡ true) where
     pub run-stops : {number place : ℕ} → toldOn (marksOn sheet b) b ≡ limits.refused number place → runFrom (suc left) sheet b ≡ ends sheet b (refused number place)
-    unfolding runFrom
-    run-stops e = rw (same, e)
+    run-stops e = run-slot ∙ rw (same, e)
 
     pub run-goes-on : toldOn (marksOn sheet b) b ≡ limits.done → runFrom (suc left) sheet b ≡ runFrom left sheet (stepOn (marksOn sheet b) b)
-    unfolding runFrom
-    run-goes-on e = rw (same, e)
-
--- a step keeps the trail's length
-step-length : (m : Marks) (b : Bench) → length (stepOn m b .trail) ≡ length (b .trail)
-step-length m b =
-    ⊎-elim
-    (λ e.
-    let t = told-taken (b .ring) (m .send) (m .receive) (length (b .trail)) e in
-    ap (λ (x : Bench). length (x .trail)) (step-after m b e)
-    ∙ length-after (b .ring) (slotOf (b .ring) (m .send) (m .receive)) (b .trail) (room-bytes _ _ (t .room)))
-    (λ x. ap (λ (y : Bench). length (y .trail)) (step-refused m b (x .2)))
-    (told-is (toldOn m b))
-
--- what the owner speaks, from its set and bit alone
-not-out : (set owner : Bool) → (not (not set) && owner) ≡ (set && owner)
-not-out true owner = refl
-not-out false owner = refl
+    run-goes-on e = run-slot ∙ rw (same, e)
 
 -- ---- the loop over the slots
 
@@ -136,7 +121,7 @@ module _ {sheet : Sheet} {all : Result} {trail : List ℕ} {r : Ring} {g : Gathe
     spoken-given =
         let o : ownerAt sheet at ≡ ownerOf r = ap₂ (λ (x y : ℕ). x % y) (sym (go .time)) (sym (go .seats)) in
         ap (λ (k : ℕ). spokenBy (seatOf r k .set) (seatOf r k .ack) k (given .send)) o
-        ∙ ap (λ (x : Bool). cond x (cond (seatOf r (ownerOf r) .ack) heardOne heardZero) heardSilence) (sym (not-out (hasSeat (seatOf r (ownerOf r) .set) (ownerOf r)) (not (given .send))))
+        ∙ ap (λ (x : Bool). cond x (cond (seatOf r (ownerOf r) .ack) heardOne heardZero) heardSilence) (sym (speaks-is r (given .send) (given .receive)))
         ∙ ap (λ (m : Marks). spokenOn m b) marks-given
 
     left : ℕ

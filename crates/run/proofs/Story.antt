@@ -1,6 +1,6 @@
 -- The run of a good sheet is the fold of the step's definition over its slots, up to its end or to the slot that ends it. Assumes nothing.
 use mathlib.Core.Path.{_≡_, refl, sym, ap, _∙_, subst}
-use mathlib.Core.List.{List, [], _∷_, _++_}
+use mathlib.Core.List.{List, [], _∷_}
 use mathlib.Core.Logic.{⊎-elim}
 use Prim.Native.Nat.{ℕ, zero, suc, _+_, _<_}
 use native.Mathlib.Omega.{arith}
@@ -11,9 +11,9 @@ use Rattle.lists.specs.Counted.{tab}
 use Rattle.lists.proofs.Counted.{below-last}
 use Rattle.lists.proofs.Tests.{both}
 use Rattle.ring.specs.Refusals.{verdictFound}
-use Rattle.steps.specs.Run.{Marks, Bench, toldOn, stepOn, freshBench, Reached, start, taken, runOn}
+use Rattle.steps.specs.Run.{Bench, toldOn, stepOn, freshBench, taken, runOn}
 use Rattle.steps.proofs.Taken.{told-is}
-use Rattle.steps.proofs.Reached.{fresh-time, step-after}
+use Rattle.steps.proofs.Reached.{fresh-time, step-after, run-append}
 use Rattle.sheet.specs.Good.{slotOf}
 use Rattle.sheet.specs.declared.Sheet.{Sheet}
 use Rattle.run.specs.Marks.{marksAt}
@@ -50,14 +50,10 @@ pub record Story (sheet : Sheet) (trail : List ℕ) (x : Result) : Type 0 where
 
 -- ---- one slot more
 
-run-append : (ms : List Marks) (m : Marks) (b : Bench) → runOn (ms ++ (m ∷ [])) b ≡ stepOn m (runOn ms b)
-unfolding runOn
-run-append [] m b = refl
-run-append (x ∷ ms) m b = run-append ms m (stepOn x b)
-
 module _ (sheet : Sheet) (trail : List ℕ) where
   bench-more : (k : ℕ) → benchAt sheet trail (suc k) ≡ stepOn (marksAt sheet k) (benchAt sheet trail k)
-  bench-more k = run-append (tab k (marksAt sheet)) (marksAt sheet k) (freshBench (sheet .n) trail)
+  unfolding runOn
+  bench-more k = run-append (tab k (marksAt sheet)) (marksAt sheet k ∷ []) (freshBench (sheet .n) trail)
 
   -- the first k slots
   record Upto (k : ℕ) : Type 0 where
@@ -108,10 +104,3 @@ module _ (sheet : Sheet) (trail : List ℕ) where
   pub run-story : Story sheet trail (runSheet sheet trail)
   unfolding runOn
   run-story = tells (sheet .«slot_count») zero (omega arith) (record { time = fresh-time (sheet .n); took = λ i l. absurd (omega arith); agree = λ i l. absurd (omega arith) })
-
-  -- every ring on the way is one of a run whose steps are all taken
-  pub story-reached : (k : ℕ) → ((i : ℕ) → i < k → toldOn (marksAt sheet i) (benchAt sheet trail i) ≡ limits.done) → Reached (sheet .n) trail (benchAt sheet trail k)
-  unfolding runOn
-  story-reached zero h = start
-  story-reached (suc k) h =
-      subst (Reached (sheet .n) trail) (sym (bench-more k)) (taken (story-reached k (λ i l. h i (omega arith))) (marksAt sheet k) (h k (omega arith)))

@@ -2,10 +2,11 @@
 use mathlib.Core.Bool.{Bool, cond, not, _&&_}
 use mathlib.Core.List.{List}
 use mathlib.Core.Path.{_≡_}
-use Prim.Native.Nat.{ℕ, _+_, _^_}
+use Prim.Native.Nat.{ℕ, _+_}
 use lib.Bits.{bitOr}
 use lib.Dec.{eqb}
 use Rattle.seats.specs.Sets.{hasSeat, withoutSeat}
+use Rattle.seats.specs.Joined.{added}
 use Rattle.ring.specs.declared.Ring.{Ring}
 use Rattle.sheet.specs.Bytes.{send, receive, dark, heardOne, heardZero, heardSilence}
 use Rattle.sheet.specs.declared.Mark.{Mark}
@@ -18,10 +19,6 @@ use Rattle.run.specs.declared.marks.Given.{Given}
 
 abbrev pub noneGathered : Gathered
 noneGathered = record { next = 0; send = 0; receive = 0; dark = 0 }
-
--- the set with the seat in it too, where that is so
-abbrev pub added : ℕ → ℕ → Bool → ℕ
-added set seat marked = cond marked (bitOr set (2 ^ seat)) set
 
 abbrev pub withMark : Gathered → Mark → Gathered
 withMark g m = record {

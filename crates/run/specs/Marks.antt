@@ -1,18 +1,14 @@
 -- Which marks a slot has, document 01: `S` and `R` at their time, and `D` from its time on.
-use mathlib.Core.Bool.{Bool, false, cond, not, _&&_, _||_}
-use Prim.Native.Nat.{ℕ, zero, suc, _%_, _^_}
+use mathlib.Core.Bool.{Bool, not, _&&_, _||_}
+use Prim.Native.Nat.{ℕ, _%_}
 use lib.Dec.{leb, eqb}
-use Rattle.lists.specs.Counted.{sum}
+use Rattle.lists.specs.Counted.{anyBelow}
+use Rattle.seats.specs.Joined.{seatsWith}
 use Rattle.steps.specs.Run.{Marks}
 use Rattle.sheet.specs.Bytes.{send, receive, dark}
 use Rattle.sheet.specs.Good.{markOf}
 use Rattle.sheet.specs.declared.Mark.{Mark}
 use Rattle.sheet.specs.declared.Sheet.{Sheet}
-
--- some number below k passes the test
-abbrev pub anyBelow : ℕ → (ℕ → Bool) → Bool
-anyBelow zero test = false
-anyBelow (suc k) test = anyBelow k test || test k
 
 -- the mark is of this kind, at time t, for seat p
 abbrev pub says : ℕ → ℕ → ℕ → Mark → Bool
@@ -36,10 +32,6 @@ sendMark sheet t = someMark sheet (λ m. says send t (ownerAt sheet t) m || dark
 
 abbrev pub receiveMark : Sheet → ℕ → ℕ → Bool
 receiveMark sheet t p = not (eqb p (ownerAt sheet t)) && someMark sheet (λ m. says receive t p m || darkens t p m)
-
--- the seats below n that pass the test, as a set
-abbrev pub seatsWith : ℕ → (ℕ → Bool) → ℕ
-seatsWith n test = sum n (λ p. cond (test p) (2 ^ p) 0)
 
 -- what the step at time t is given
 unfoldable pub marksAt : Sheet → ℕ → Marks

@@ -1,11 +1,12 @@
--- Laws of a number's binary digits: one is taken away, all are compared, all are counted. Assumes nothing.
+-- Laws of a number's binary digits: the highest; one is taken away, all are compared, all are counted. Assumes nothing.
 use mathlib.Core.Path.{_≡_, refl, sym, ap, _∙_}
-use Prim.Native.Nat.{ℕ, zero, suc, _+_, _-_, _/_, _%_, _^_, _≤_, _<_}
+use Prim.Native.Nat.{ℕ, zero, suc, _+_, _-_, _*_, _/_, _%_, _^_, _≤_, _<_}
 use native.Mathlib.Nat.{pow-suc, div-one, div-eq-of-lt}
 use native.Mathlib.Numerals.{one-add}
 use native.Mathlib.Omega.{arith}
-use lib.Pow.{pow-pos, pow-mono, shr-shr}
-use lib.Count.{onesIn}
+use lib.Arith.{lt-one}
+use lib.Pow.{pow-pos, pow-mono, shr-shr, high, ones-lt, ones-split}
+use lib.Count.{ones, onesIn, ones-step, ones-ones}
 
 -- ---- the digits, from the lowest up
 
@@ -27,6 +28,24 @@ same-digits (suc n) s t hs ht f =
     let b = sym (digit-zero s) ∙ f zero (omega arith) ∙ digit-zero t in
     let r = same-digits n (s / 2) (t / 2) (omega arith) (omega arith) (λ j h. sym (digit-suc s j) ∙ f (suc j) (omega arith) ∙ digit-suc t j) in
     omega arith
+
+-- a number has fewer digits than it counts
+pub below-pow : (s : ℕ) → s < 2 ^ s
+below-pow zero = pow-pos 0
+below-pow (suc s) = let h = below-pow s in let p = pow-suc 2 s in omega arith
+
+-- the highest digit is 1
+pub top-digit : (s j : ℕ) → 2 ^ j ≤ s → s < 2 ^ suc j → s / 2 ^ j % 2 ≡ 1
+top-digit s j l h =
+    let p = pow-suc 2 j in
+    let e : s ≡ 1 * 2 ^ j + (s - 2 ^ j) = omega arith in
+    ap (λ (x : ℕ). x / 2 ^ j % 2) e ∙ ap (λ (x : ℕ). x % 2) (high 1 j (omega arith))
+
+-- the count of a number's digits is the count of k of them
+pub ones-in : (k s : ℕ) → s < 2 ^ k → ones s ≡ onesIn k s
+unfolding ones onesIn
+ones-in zero s h = ap ones (lt-one h)
+ones-in (suc k) s h = ones-step s ∙ ap (λ (x : ℕ). s % 2 + x) (ones-in k (s / 2) (let p = pow-suc 2 k in omega arith))
 
 -- ---- a digit that is 1 is taken away
 
@@ -73,26 +92,17 @@ less-count (suc k) s (suc j) h e =
 
 -- ---- the number whose n digits are all 1
 
-half-full : (n : ℕ) → (2 ^ suc n - 1) / 2 ≡ 2 ^ n - 1
-half-full n = let f = pow-suc 2 n in let g = pow-pos n in omega arith
-
 odd-full : (n : ℕ) → (2 ^ suc n - 1) % 2 ≡ 1
 odd-full n = let f = pow-suc 2 n in let g = pow-pos n in omega arith
 
 pub full-digit : (n p : ℕ) → p < n → (2 ^ n - 1) / 2 ^ p % 2 ≡ 1
-full-digit zero p l = absurd (omega arith)
-full-digit (suc n) zero l = digit-zero (2 ^ suc n - 1) ∙ odd-full n
-full-digit (suc n) (suc p) l =
-    digit-suc (2 ^ suc n - 1) p ∙ ap (λ (x : ℕ). x / 2 ^ p % 2) (half-full n) ∙ full-digit n p (omega arith)
-
-none-count : (k : ℕ) → onesIn k 0 ≡ 0
-unfolding onesIn
-none-count zero = refl
-none-count (suc k) = let e = none-count k in omega arith
+full-digit n p l =
+    let m = n - suc p in
+    let e : n ≡ suc m + p = omega arith in
+    ap (λ (x : ℕ). (2 ^ x - 1) / 2 ^ p % 2) e
+    ∙ ap (λ (x : ℕ). x / 2 ^ p % 2) (ones-split (suc m) p)
+    ∙ ap (λ (x : ℕ). x % 2) (high (2 ^ suc m - 1) p (ones-lt p))
+    ∙ odd-full m
 
 pub full-count : (k n : ℕ) → n ≤ k → onesIn k (2 ^ n - 1) ≡ n
-unfolding onesIn
-full-count zero zero h = refl
-full-count zero (suc n) h = absurd (omega arith)
-full-count (suc k) zero h = let e = none-count k in omega arith
-full-count (suc k) (suc n) h = let e = full-count k n (omega arith) in rw (half-full n, odd-full n) (omega arith)
+full-count k n h = sym (ones-in k (2 ^ n - 1) (omega (arith, ones-lt n, pow-mono {i = n} {j = k} h))) ∙ ones-ones n

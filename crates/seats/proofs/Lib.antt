@@ -2,3 +2,4 @@
 pub mod Digits
 pub mod Machine
 pub mod Sets
+pub mod Joined

@@ -1,19 +1,17 @@
 -- The machine's own operations on a mask are those of specs/Sets.antt. Assumes nothing.
 use mathlib.Core.Path.{_≡_, sym, ap, ap₂, _∙_}
-use mathlib.Core.Bool.{true, false}
 use mathlib.Core.Logic.{⊎-elim}
 use Prim.Native.Nat.{ℕ, zero, suc, _+_, _-_, _*_, _/_, _%_, _^_, _≤_, _<_, min}
 use native.Mathlib.Nat.{pow-suc, mod-eq-of-lt, div-eq-of-lt, div-eq-sub-div}
 use native.Mathlib.Omega.{arith}
 use lib.Dec.{eqb, leb}
-use lib.Arith.{lt-one}
 use lib.Pow.{pow-pos, pow-lt, pow-mono, shl-exact}
 use lib.Bits.{bitAnd, and-step, and-mask}
-use lib.Count.{ones, onesIn, ones-step}
 use borrow.Author.Tests.{eqb-true, eqb-false, eq-eqb, ne-eqb, leb-true, leb-false}
 use Rattle.lists.proofs.Tests.{both}
 use Rattle.seats.specs.Sets.{hasSeat, withoutSeat, fullSet}
 use Rattle.seats.proofs.Digits.{digit-zero, digit-suc, digit-le, half-less, odd-less}
+pub use Rattle.seats.proofs.Digits.{ones-in}
 use Rattle.seats.proofs.Sets.{without-is, without-none, full-is}
 
 -- 1 shifted by less than the width is the power
@@ -41,12 +39,6 @@ within-is s n h =
     let d = div-eq-sub-div {m = 2 ^ n} {n = s} p (reaches s n h l) in
     ne-eqb (s / 2 ^ n) 0 (omega arith) ∙ sym e)
     (both (leb s (fullSet n)))
-
--- the count of a number's digits is the count of k of them
-pub ones-in : (k s : ℕ) → s < 2 ^ k → ones s ≡ onesIn k s
-unfolding ones onesIn
-ones-in zero s h = ap ones (lt-one h)
-ones-in (suc k) s h = ones-step s ∙ ap (λ (x : ℕ). s % 2 + x) (ones-in k (s / 2) (let p = pow-suc 2 k in omega arith))
 
 -- a removal, one digit down
 without-zero : (s : ℕ) → withoutSeat s 0 ≡ s / 2 * 2

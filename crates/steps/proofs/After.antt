@@ -1,17 +1,15 @@
 -- The ring and the trail after a step: the seats, the records' bytes, and that a ring leads to a ring. Assumes nothing.
-use mathlib.Core.Path.{_≡_, refl, _∙_}
+use mathlib.Core.Path.{_≡_, _∙_}
 use mathlib.Core.Bool.{Bool}
-use mathlib.Core.List.{List, [], _∷_}
+use mathlib.Core.List.{List}
 use Prim.Native.Nat.{ℕ, _+_, _*_, _≤_, _<_}
+use native.Mathlib.Nat.{le-refl}
 use native.Mathlib.Omega.{arith}
 use lib.ListN.{length}
-use Rattle.lists.specs.Counted.{joined, sum}
-use Rattle.lists.proofs.Counted.{length-joined, sum-same, sum-times}
-use Rattle.lists.proofs.Put.{length-put}
 use Rattle.ring.specs.Ring.{seatOf}
-use Rattle.ring.specs.Table.{Gone}
-use Rattle.ring.specs.Step.{slotOf, turnAt, turnOf, goneAt, countAt, countIn, recordsAt, ringAfter, trailAfter}
-use Rattle.ring.specs.Trail.{width, recordsOf, roomFor}
+use Rattle.ring.specs.Step.{slotOf, turnAt, turnOf, countIn, ringAfter, trailAfter}
+use Rattle.ring.specs.Trail.{width, roomFor}
+use Rattle.ring.proofs.Records.{length-written}
 use Rattle.ring.specs.declared.Ring.{Ring}
 use Rattle.ring.specs.declared.slot.Slot.{Slot}
 use Rattle.steps.proofs.Valid.{Valid, Member}
@@ -31,21 +29,9 @@ module _ (r : Ring) (c : Slot) where
 
 -- ---- the records
 
-pub length-records : (time p : ℕ) (gs : List Gone) → length (recordsOf time p gs) ≡ width * length gs
-length-records time p [] = refl
-length-records time p (g ∷ more) = let e = length-records time p more in omega arith
-
-module _ (r : Ring) (c : Slot) where
-  -- so many bytes are written by the first k seats
-  pub length-written : (k : ℕ) → length (joined k (recordsAt r c)) ≡ width * sum k (countAt r c)
-  length-written k =
-      length-joined (recordsAt r c) k
-      ∙ sum-same (λ p. length (recordsAt r c p)) (λ p. width * countAt r c p) k (λ p l. length-records (c .time) p (goneAt r c p))
-      ∙ sum-times width (countAt r c) k
-
-  -- the trail keeps its length where the records fit
-  pub length-after : (t : List ℕ) → width * (r .records + countIn r c) ≤ length t → length (trailAfter r c t) ≡ length t
-  length-after t l = length-put t (width * r .records) (joined (r .n) (recordsAt r c)) (let e = length-written (r .n) in omega arith)
+-- the trail keeps its length where they fit
+pub length-after : (r : Ring) (c : Slot) (t : List ℕ) → width * (r .records + countIn r c) ≤ length t → length (trailAfter r c t) ≡ length t
+length-after r c t l = length-written r c t (width * r .records) (omega arith) (r .n) (le-refl (r .n))
 
 -- records within the room have their bytes in the buffer
 pub room-bytes : (k bytes : ℕ) → k ≤ roomFor bytes → width * k ≤ bytes

@@ -1,14 +1,15 @@
 -- Runs: a fresh ring is a ring, and so is every ring that a run from it comes to. Assumes nothing.
-use mathlib.Core.Path.{_≡_, refl, sym, _∙_, subst}
+use mathlib.Core.Path.{_≡_, refl, sym, ap, _∙_, subst}
 use mathlib.Core.Bool.{Bool, false}
-use mathlib.Core.List.{List, [], _∷_}
+use mathlib.Core.List.{List, [], _∷_, _++_}
 use mathlib.Core.Logic.{⊎-elim}
 use Prim.Native.Nat.{ℕ, _≤_, _<_}
 use native.Mathlib.Nat.{le-refl}
 use native.Mathlib.Omega.{arith}
 use lib.Pow.{pow-pos}
-use lib.ListN.{length, getD-replicate}
+use lib.ListN.{length}
 use Rattle.limits.specs.Refusals.{done, refused}
+use Rattle.lists.proofs.Counted.{getD-alike}
 use Rattle.seats.proofs.Sets.{full-is}
 use Rattle.ring.specs.Ring.{seatOf, noSeat, freshSeat, zeroRing, freshRing}
 use Rattle.ring.specs.Step.{slotOf, ringAfter, trailAfter}
@@ -37,13 +38,13 @@ pub fresh-seat : (n p : ℕ) → p < n → seatOf (freshRing n) p ≡ freshSeat 
 unfolding freshRing
 fresh-seat n = drawn-seat n zeroRing (λ q. freshSeat n)
 
-zero-seat : (p : ℕ) → p < 32 → seatOf zeroRing p ≡ noSeat
+zero-seat : (p : ℕ) → seatOf zeroRing p ≡ noSeat
 unfolding zeroRing
-zero-seat p l = rw (getD-replicate {A = ℕ} 32 p 0 0 l, getD-replicate {A = Bool} 32 p false false l)
+zero-seat p = rw (getD-alike {A = ℕ} 32 p 0, getD-alike {A = Bool} 32 p false)
 
-pub fresh-beyond : (n p : ℕ) → n ≤ p → p < 32 → seatOf (freshRing n) p ≡ noSeat
+pub fresh-beyond : (n p : ℕ) → n ≤ p → seatOf (freshRing n) p ≡ noSeat
 unfolding freshRing
-fresh-beyond n p l h = undrawn-seat n zeroRing (λ q. freshSeat n) p l ∙ zero-seat p h
+fresh-beyond n p l = undrawn-seat n zeroRing (λ q. freshSeat n) p l ∙ zero-seat p
 
 pub fresh-valid : (n room : ℕ) → 2 ≤ n → n ≤ 32 → Valid (freshRing n) room
 fresh-valid n room l h =
@@ -57,7 +58,7 @@ fresh-valid n room l h =
       soon = rw fresh-time (omega arith);
       fits = rw fresh-records (omega arith);
       member = λ p k. let i : p < n = omega (arith, k) in rw (fresh-n n, fresh-time n, fresh-seat n p i) m;
-      absent = λ p k q. fresh-beyond n p (omega (arith, k)) q;
+      absent = λ p k q. fresh-beyond n p (omega (arith, k));
     }
 
 -- ---- a step of a run
@@ -119,6 +120,23 @@ step-refused m b e =
     let f = refused-ring (b .ring) (m .send) (m .receive) (b .trail) e in
     let g = refused-trail (b .ring) (m .send) (m .receive) (b .trail) e in
     λ i. record { ring = f i; trail = g i }
+
+-- the trail keeps its length
+pub step-length : (m : Marks) (b : Bench) → length (stepOn m b .trail) ≡ length (b .trail)
+step-length m b =
+    ⊎-elim
+    (λ e.
+    let t = told-taken (b .ring) (m .send) (m .receive) (length (b .trail)) e in
+    ap (λ (x : Bench). length (x .trail)) (step-after m b e)
+    ∙ length-after (b .ring) (slotOf (b .ring) (m .send) (m .receive)) (b .trail) (room-bytes _ _ (t .room)))
+    (λ x. ap (λ (y : Bench). length (y .trail)) (step-refused m b (x .2)))
+    (told-is (toldOn m b))
+
+-- steps after steps
+pub run-append : (ms more : List Marks) (b : Bench) → runOn (ms ++ more) b ≡ runOn more (runOn ms b)
+unfolding runOn
+run-append [] more b = refl
+run-append (m ∷ ms) more b = run-append ms more (stepOn m b)
 
 -- a refused step leaves the bench, so such a run comes to the benches of one whose steps are all taken
 pub run-reached : {n : ℕ} {trail : List ℕ} (ms : List Marks) {b : Bench} → Reached n trail b → Reached n trail (runOn ms b)

@@ -17,6 +17,7 @@ use Rattle.ring.specs.Step.{slotOf, countIn, ringAfter, trailAfter}
 use Rattle.ring.specs.Trail.{roomFor}
 use Rattle.ring.specs.Refusals.{marksStand, stepTold}
 use Rattle.ring.specs.Promise.{ringOf, trailOf}
+use Rattle.ring.proofs.Refusing.{all-checked}
 use Rattle.ring.specs.declared.Ring.{Ring}
 use Rattle.steps.proofs.Valid.{Valid, ring-valid, valid-ring}
 
@@ -69,13 +70,12 @@ module _ (r : Ring) (send : Bool) (receive bytes : ℕ) where
       }
 
   pub taken-told : Taken r send receive bytes → stepTold r send receive bytes ≡ done
-  unfolding stepTold
   taken-told t =
       let f = full-is (r .n) (t .valid .most) in
       let l = t .within in
       let m : marksStand (r .n) (slotOf r send receive) ≡ true = and-of (le-leb receive (fullSet (r .n)) (omega arith)) (ap not (t .others)) in
       let b = t .before in
-      rw (valid-ring r (roomFor bytes) (t .valid), m, ne-eqb (r .time) 4096 (omega arith), le-leb (r .records + countIn r (slotOf r send receive)) (roomFor bytes) (t .room))
+      all-checked r send receive bytes (valid-ring r (roomFor bytes) (t .valid)) m (ne-eqb (r .time) 4096 (omega arith)) (le-leb _ _ (t .room))
 
 -- ---- what it gives
 

@@ -1,7 +1,6 @@
 -- The ways of a seat's turn, and what every turn leaves. Assumes nothing.
 use mathlib.Core.Path.{_≡_}
 use mathlib.Core.Bool.{Bool, true, false, _&&_}
-use mathlib.Core.List.{List, [], _∷_}
 use mathlib.Core.Logic.{⊎-elim}
 use Prim.Native.Nat.{ℕ, _+_, _≤_}
 use native.Mathlib.Nat.{le-refl}
@@ -9,13 +8,13 @@ use native.Mathlib.Omega.{arith}
 use lib.Dec.{eqb}
 use borrow.Author.Tests.{eqb-true, eqb-false, eq-eqb, ne-eqb}
 use Rattle.lists.proofs.Tests.{both}
-use Rattle.seats.specs.Sets.{hasSeat, withoutSeat}
-use Rattle.seats.proofs.Sets.{without-le}
-use Rattle.ring.specs.Table.{decided, Gone, goneBy, withoutAll}
+use Rattle.seats.specs.Sets.{hasSeat}
+use Rattle.ring.specs.Table.{decided, goneBy}
 use Rattle.ring.specs.Step.{viewOf, misses, faultAfter, ownerTurn, otherTurn, stillTurn, turnOf}
 use Rattle.ring.specs.declared.slot.Seat.{Seat}
 use Rattle.ring.specs.declared.slot.Slot.{Slot}
 use Rattle.ring.specs.declared.slot.Turn.{Turn}
+use Rattle.steps.proofs.Gone.{without-all-le}
 
 -- ---- the four ways of a turn
 
@@ -60,10 +59,6 @@ module _ (c : Slot) (p : ℕ) (s : Seat) where
       (both (hasSeat (s .set) p))
 
 -- ---- what a turn leaves
-
-pub without-all-le : (set : ℕ) (gs : List Gone) → withoutAll set gs ≤ set
-without-all-le set [] = le-refl set
-without-all-le set (g ∷ more) = omega (arith, without-all-le (withoutSeat set (g .seat)) more, without-le set (g .seat))
 
 pub fault-le : (held : Bool) (time fault : ℕ) → fault ≤ time → faultAfter held time fault ≤ time + 1
 fault-le held time fault l =

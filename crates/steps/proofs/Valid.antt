@@ -1,18 +1,19 @@
 -- What a ring is: the engine's test `isRing` as a record of facts, and back. Assumes nothing.
 use mathlib.Core.Path.{_≡_, ap}
-use mathlib.Core.Bool.{true}
+use mathlib.Core.Bool.{true, _&&_}
 use mathlib.Core.Logic.{⊎-elim}
 use Prim.Native.Nat.{ℕ, _≤_, _<_}
 use native.Mathlib.Nat.{mod-lt}
 use native.Mathlib.Omega.{arith}
-use lib.Dec.{ltb}
+use lib.Dec.{leb, ltb}
 use borrow.Author.Tests.{leb-true, le-leb, lt-ltb, le-ltb, ltb-true, ltb-false, eqb-true, not-true}
 use Rattle.lists.proofs.Tests.{both, and-true, and-of, all-at, all-from}
 use Rattle.seats.proofs.Sets.{below-full, full-is}
 use Rattle.seats.specs.Sets.{fullSet}
-use Rattle.ring.specs.Ring.{seatOf, ownerOf, noSeat, memberStands, absentStands, seatStands, everySeatStands, isRing}
+use Rattle.ring.specs.Ring.{seatOf, ownerOf, noSeat, seatsStand, memberStands, absentStands, seatStands, everySeatStands, isRing}
 use Rattle.ring.specs.declared.Ring.{Ring}
 use Rattle.ring.specs.declared.slot.Seat.{Seat}
+use Rattle.ring.proofs.Refusing.{checked}
 pub use Rattle.steps.specs.Valid.{Member, Valid}
 
 -- ---- one seat
@@ -55,21 +56,18 @@ every-from r h = all-from (λ q. seatStands (r .n) (r .time) q (seatOf r q)) 32 
 pub ring-valid : (r : Ring) (room : ℕ) → isRing r room ≡ true → Valid r room
 unfolding isRing
 ring-valid r room e =
-    let a = and-true _ (everySeatStands r) e in
-    let b = and-true _ _ (a .0) in
-    let c = and-true _ _ (b .0) in
-    let d = and-true _ _ (c .0) in
-    let most = leb-true (r .n) 32 (d .1) in
+    let k = checked r room e in
+    let all = and-true (seatsStand (r .n) && leb (r .time) 4096 && leb (r .records) room) (everySeatStands r) e .1 in
     record {
-      least = leb-true 2 (r .n) (d .0);
-      most = most;
-      soon = leb-true (r .time) 4096 (c .1);
-      fits = leb-true (r .records) room (b .1);
+      least = k .least;
+      most = k .most;
+      soon = k .soon;
+      fits = k .kept;
       member = λ p l.
-          let s = every-at r p (a .1) (omega arith) in
-          member-of (r .n) (r .time) (seatOf r p) most (rw (lt-ltb p (r .n) l) at s);
+          let s = every-at r p all (omega (arith, k .most)) in
+          member-of (r .n) (r .time) (seatOf r p) (k .most) (rw (lt-ltb p (r .n) l) at s);
       absent = λ p l m.
-          let s = every-at r p (a .1) m in
+          let s = every-at r p all m in
           absent-of (seatOf r p) (rw (le-ltb p (r .n) l) at s);
     }
 
@@ -83,6 +81,10 @@ valid-ring r room v =
     (λ t. rw t (member-stands (r .n) (r .time) (seatOf r p) (v .most) (v .member p (ltb-true _ _ t))))
     (λ f. rw f (absent-stands (seatOf r p) (v .absent p (ltb-false _ _ f) l)))
     (both (ltb p (r .n)))))
+
+-- with more room it is still one
+pub valid-wider : (r : Ring) {room wide : ℕ} → room ≤ wide → Valid r room → Valid r wide
+valid-wider r h v = record { least = v .least; most = v .most; soon = v .soon; fits = omega (arith, v .fits); member = v .member; absent = v .absent }
 
 -- ---- the owner of the slot
 

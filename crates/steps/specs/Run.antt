@@ -1,8 +1,8 @@
 -- A run as a list of steps, by the engine's own definitions, with one buffer lent throughout.
-use mathlib.Core.Bool.{Bool}
+use mathlib.Core.Bool.{Bool, true, false}
 use mathlib.Core.List.{List, [], _∷_}
 use mathlib.Core.Path.{_≡_}
-use Prim.Native.Nat.{ℕ}
+use Prim.Native.Nat.{ℕ, _^_}
 use lib.ListN.{length}
 use Rattle.limits.specs.Refusals.{Told, done}
 use Rattle.ring.specs.Ring.{freshRing}
@@ -14,6 +14,16 @@ use Rattle.ring.specs.declared.Ring.{Ring}
 pub record Marks : Type 0 where
   pub send : Bool
   pub receive : ℕ
+
+-- no mark; a send mark for the owner; a receive mark for one seat
+abbrev pub quiet : Marks
+quiet = record { send = false; receive = 0 }
+
+abbrev pub sendFault : Marks
+sendFault = record { send = true; receive = 0 }
+
+abbrev pub missedBy : ℕ → Marks
+missedBy p = record { send = false; receive = 2 ^ p }
 
 -- a ring and the trail lent to it
 pub record Bench : Type 0 where

@@ -1,6 +1,7 @@
 -- `run`: the reader's answer decides. Assumes nothing.
 use borrow.Author.Needs.{needs}
-use Rattle.run.proofs.Reading.{sheet-good, keeps-read, keeps-refused}
+use Rattle.sheet.proofs.FitLaws.{reading-good}
+use Rattle.run.proofs.Reading.{keeps-read, keeps-refused}
 use Rattle.run.proofs.run.Statement.{statement}
 use Rattle.run.proofs.run.Tie as tie
 
@@ -13,7 +14,7 @@ enum-told c = search needs
 through-requires : tie.Need-through-requires
 through-requires c κs =
     let read = c .before .before .before .before .read in
-    sheet-good _ (read .result) (read .ensures) (c .before .enum-told .given .1)
+    reading-good _ (read .result) (read .ensures) (c .before .enum-told .given .1)
 
 enum-known-answer : tie.Need-enum-known-answer
 enum-known-answer c = search needs

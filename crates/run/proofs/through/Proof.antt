@@ -53,7 +53,8 @@ said c =
     let sheet = start l .args .t1 in
     let r = l .loop .ring in
     let o = ownerAt sheet (l .loop .at) in
-    c .spoken .ensures
+    let of-seat : c .spoken .result ≡ spokenBy (seatOf r o .set) (seatOf r o .ack) o (c .before .before .before .given-by .result .send) = c .spoken .ensures in
+    of-seat
     ∙ ap (λ (x : Given). spokenBy (seatOf r o .set) (seatOf r o .ack) o (x .send)) (c .before .before .before .given-by .ensures)
     ∙ spoken-given (l .loop .inv .0) (start l .pre) (c .before .before .before .before .before .loop-test .taken) (whole j)
 

@@ -1,21 +1,19 @@
--- Sets of seats put together: the machine's `or` of two masks, and the seats that pass a test. Assumes nothing.
+-- Laws of the sets of specs/Joined.antt, and of the machine's `or` of two masks: who is in them. Assumes nothing.
 use mathlib.Core.Path.{_≡_, sym, ap, _∙_}
 use mathlib.Core.Bool.{Bool, true, false, _&&_, or-false, and-true, _||_}
 use mathlib.Core.Logic.{⊎-elim}
-use Prim.Native.Nat.{ℕ, zero, suc, _+_, _-_, _*_, _/_, _%_, _^_, _<_, max}
-use native.Mathlib.Nat.{pow-suc, div-self, zero-div}
+use Prim.Native.Nat.{ℕ, zero, suc, _+_, _*_, _/_, _%_, _^_, _<_, max}
+use native.Mathlib.Nat.{pow-suc}
 use native.Mathlib.Omega.{arith}
 use lib.Dec.{eqb}
-use lib.Pow.{pow-pos, pow-lt}
+use lib.Pow.{pow-lt}
 use lib.Bits.{bitOr, or-step, or-shr, or-lt, or-shifted-r}
 use borrow.Author.Tests.{eqb-true, eqb-false, eq-eqb, ne-eqb}
 use Rattle.lists.proofs.Counted.{below-last}
 use Rattle.lists.proofs.Tests.{both, and-false}
 use Rattle.seats.specs.Sets.{hasSeat}
-use Rattle.seats.proofs.Digits.{less-other}
-use Rattle.seats.proofs.Sets.{none-past}
-use Rattle.run.specs.Marks.{seatsWith}
-use Rattle.run.specs.Inside.{added}
+use Rattle.seats.specs.Joined.{added, seatsWith}
+use Rattle.seats.proofs.Sets.{none-past, has-one}
 
 -- ---- two sets in one
 
@@ -35,30 +33,13 @@ has-or a b j =
     (both (hasSeat b j)))
     (both (hasSeat a j))
 
--- ---- one seat
-
-own-digit : (j : ℕ) → 2 ^ j / 2 ^ j % 2 ≡ 1
-own-digit j = ap (λ (x : ℕ). x % 2) (div-self (pow-pos j))
-
-pub has-one : (j p : ℕ) → hasSeat (2 ^ j) p ≡ eqb j p
-has-one j p =
-    ⊎-elim
-    (λ e. rw e (ap (hasSeat (2 ^ j)) (sym (eqb-true j p e)) ∙ eq-eqb _ _ (own-digit j)))
-    (λ e.
-    let n = eqb-false j p e in
-    let d = less-other (2 ^ j) j p (own-digit j) (λ q. n (sym q)) in
-    let z : 2 ^ j - 2 ^ j ≡ 0 = omega arith in
-    let y : (2 ^ j - 2 ^ j) / 2 ^ p % 2 ≡ 0 = ap (λ (x : ℕ). x / 2 ^ p % 2) z ∙ ap (λ (x : ℕ). x % 2) (zero-div (2 ^ p)) in
-    rw e (ne-eqb (2 ^ j / 2 ^ p % 2) 1 (omega arith)))
-    (both (eqb j p))
-
 -- ---- a seat added where that is so
 
-pub has-added : (set j : ℕ) (marked : Bool) (p : ℕ) → hasSeat (added set j marked) p ≡ (hasSeat set p || (marked && eqb j p))
+pub has-added : (set j : ℕ) (so : Bool) (p : ℕ) → hasSeat (added set j so) p ≡ (hasSeat set p || (so && eqb p j))
 has-added set j true p = has-or set (2 ^ j) p ∙ ap (λ (b : Bool). hasSeat set p || b) (has-one j p)
 has-added set j false p = sym (or-false (hasSeat set p))
 
-pub added-below : (n set j : ℕ) (marked : Bool) → set < 2 ^ n → j < n → added set j marked < 2 ^ n
+pub added-below : (n set j : ℕ) (so : Bool) → set < 2 ^ n → j < n → added set j so < 2 ^ n
 added-below n set j true l h = or-lt n set (2 ^ j) l (pow-lt h)
 added-below n set j false l h = l
 
@@ -87,6 +68,6 @@ module _ (test : ℕ → Bool) where
       ap (λ (x : ℕ). hasSeat x p) (one-more k)
       ∙ has-added s k (test k) p
       ∙ ⊎-elim
-      (λ h. rw (ne-eqb k p (omega arith), and-false (test k), or-false (hasSeat s p)) (has-with k p h))
-      (λ e. rw (none-past s k p (with-below k) (omega arith), eq-eqb k p (sym e), and-true (test k)) (ap test (sym e)))
+      (λ h. rw (ne-eqb p k (omega arith), and-false (test k), or-false (hasSeat s p)) (has-with k p h))
+      (λ e. rw (none-past s k p (with-below k) (omega arith), eq-eqb p k e, and-true (test k)) (ap test (sym e)))
       (below-last p k l)

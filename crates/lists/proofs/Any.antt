@@ -1,12 +1,12 @@
--- Laws of `anyBelow` of specs/Marks.antt: whether some number below a count passes. Assumes nothing.
+-- Laws of `anyBelow` of specs/Counted.antt: whether some number below a count passes. Assumes nothing.
 use mathlib.Core.Path.{_≡_, refl, sym, ap, ap₂, _∙_}
 use mathlib.Core.Bool.{Bool, true, false, or-false, _||_}
 use mathlib.Core.Logic.{⊎-elim}
 use Prim.Native.Nat.{ℕ, zero, suc, _+_, _≤_, _<_}
 use native.Mathlib.Numerals.{add-one}
 use native.Mathlib.Omega.{arith}
+use Rattle.lists.specs.Counted.{anyBelow}
 use Rattle.lists.proofs.Counted.{below-last}
-use Rattle.run.specs.Marks.{anyBelow}
 
 pub any-more : (f : ℕ → Bool) (k : ℕ) → anyBelow (k + 1) f ≡ (anyBelow k f || f k)
 any-more f k = ap (λ (x : ℕ). anyBelow x f) (add-one k)
@@ -14,10 +14,6 @@ any-more f k = ap (λ (x : ℕ). anyBelow x f) (add-one k)
 pub any-same : (f g : ℕ → Bool) (k : ℕ) → ((i : ℕ) → i < k → f i ≡ g i) → anyBelow k f ≡ anyBelow k g
 any-same f g zero h = refl
 any-same f g (suc k) h = ap₂ (λ (a b : Bool). a || b) (any-same f g k (λ i l. h i (omega arith))) (h k (omega arith))
-
-pub any-none : (f : ℕ → Bool) (k : ℕ) → ((i : ℕ) → i < k → f i ≡ false) → anyBelow k f ≡ false
-any-none f zero h = refl
-any-none f (suc k) h = rw (any-none f k (λ i l. h i (omega arith))) (h k (omega arith))
 
 -- none passes from j on
 pub any-up-to : (f : ℕ → Bool) (j k : ℕ) → j ≤ k → ((i : ℕ) → j ≤ i → i < k → f i ≡ false) → anyBelow k f ≡ anyBelow j f
@@ -27,6 +23,9 @@ any-up-to f j (suc k) l h =
     (λ m. rw (h k (omega arith) (omega arith), or-false (anyBelow k f)) (any-up-to f j k (omega arith) (λ i a b. h i a (omega arith))))
     (λ e. ap (λ (x : ℕ). anyBelow x f) (sym e))
     (below-last j (suc k) (omega arith))
+
+pub any-none : (f : ℕ → Bool) (k : ℕ) → ((i : ℕ) → i < k → f i ≡ false) → anyBelow k f ≡ false
+any-none f k h = any-up-to f 0 k (omega arith) (λ i a l. h i l)
 
 swap-or : (a b x y : Bool) → ((a || b) || (x || y)) ≡ ((a || x) || (b || y))
 swap-or true b x y = refl

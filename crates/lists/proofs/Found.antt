@@ -1,23 +1,22 @@
--- A number below a count that passes a test, if there is one; and at least two, by their count. Assumes nothing.
-use mathlib.Core.Bool.{Bool, true, false, cond}
+-- The numbers below a count that pass a test: one of them, if there is one; and how many, by those that are known. Assumes nothing.
+use mathlib.Core.Bool.{Bool, true, false, cond, not}
 use mathlib.Core.Logic.{_⊎_, inl, inr, ⊎-elim}
-use mathlib.Core.Path.{_≡_, ap, _∙_}
+use mathlib.Core.Path.{_≡_, ap}
 use Prim.Native.Nat.{ℕ, zero, suc, _+_, _≤_, _<_}
 use native.Mathlib.Omega.{arith}
-use Rattle.lists.specs.Counted.{countBelow}
-use Rattle.lists.proofs.Counted.{below-last, sum-le}
-use Rattle.lists.proofs.Tests.{both}
+use borrow.Author.Tests.{not-true, not-false}
+use Rattle.lists.specs.Counted.{countBelow, allBelow}
+use Rattle.lists.proofs.Counted.{sum-le, sum-zero}
+use Rattle.lists.proofs.Tests.{both, all-at, all-not}
 
 module _ (f : ℕ → Bool) where
   -- one passes, or none does
   pub found : (k : ℕ) → ((p : ℕ) × (p < k) × (f p ≡ true)) ⊎ ((p : ℕ) → p < k → f p ≡ false)
-  found zero = inr (λ p l. absurd (omega arith))
-  found (suc k) = ⊎-elim (λ e. inl (k, omega arith, e)) (λ e. go e (found k)) (both (f k))
-    where
-      go : f k ≡ false → ((p : ℕ) × (p < k) × (f p ≡ true)) ⊎ ((p : ℕ) → p < k → f p ≡ false)
-          → ((p : ℕ) × (p < suc k) × (f p ≡ true)) ⊎ ((p : ℕ) → p < suc k → f p ≡ false)
-      go e (inl (p, l, h)) = inl (p, omega arith, h)
-      go e (inr h) = inr (λ p l. ⊎-elim (λ m. h p m) (λ q. ap f q ∙ e) (below-last p k l))
+  found k =
+      ⊎-elim
+      (λ e. inr (λ p l. not-true (f p) (all-at (λ i. not (f i)) k p e l)))
+      (λ e. let r = all-not (λ i. not (f i)) k e in inl (r .0, r .1, not-false (f (r .0)) (r .2)))
+      (both (allBelow k (λ i. not (f i))))
 
   -- ---- counted
 
@@ -36,12 +35,11 @@ module _ (f : ℕ → Bool) where
 
   -- a count above 0 has one
   pub counted-one : (k : ℕ) → 0 < countBelow k f → (p : ℕ) × (p < k) × (f p ≡ true)
-  counted-one zero h = absurd (omega arith)
-  counted-one (suc k) h =
+  counted-one k h =
       ⊎-elim
-      (λ e. (k, omega arith, e))
-      (λ e. let r = counted-one k (omega (arith, passes k e)) in (r .0, omega (arith, r .1), r .2))
-      (both (f k))
+      (λ r. r)
+      (λ none. absurd (omega (arith, sum-zero (λ i. cond (f i) 1 0) k (λ i l. ap (λ (b : Bool). cond b 1 0) (none i l)))))
+      (found k)
 
   pub counted-two : (k : ℕ) → 2 ≤ countBelow k f → (p : ℕ) × (q : ℕ) × (p < q) × (q < k) × (f p ≡ true) × (f q ≡ true)
   counted-two zero h = absurd (omega arith)

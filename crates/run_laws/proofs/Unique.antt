@@ -9,14 +9,14 @@ use Rattle.ring.specs.Refusals.{found}
 use Rattle.ring.specs.declared.Judged.{Judged}
 use Rattle.ring.specs.declared.Verdict.{Verdict}
 use Rattle.ring.proofs.Unique.{one-judged}
 use Rattle.run.specs.Outcome.{heard, ran, refused, said}
 use Rattle.run.specs.Run.{runOf, RunPromise}
 use Rattle.run.specs.declared.Bus.{Bus}
 use Rattle.run.specs.declared.Bus.the-variants.{Agrees, Differs}
 use Rattle.run.specs.declared.Answer.{Answer}
 use Rattle.run.specs.declared.Answer.the-variants.{Ran, Refused}
 use Rattle.run.specs.declared.Ran as value
-use Rattle.run.proofs.Fits.{run-verdict}
+use Rattle.run_laws.proofs.Verdicts.{run-verdict}
 
 one-bus : (a b : Bus) → heard a ≡ heard b → a ≡ b
 one-bus Agrees Agrees e = refl
