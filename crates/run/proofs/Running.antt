@@ -23,7 +23,7 @@ use Rattle.sheet.specs.Good.{GoodSheet}
 use Rattle.sheet.specs.declared.Sheet.{Sheet}
 use Rattle.run.specs.Marks.{ownerAt, marksAt}
 use Rattle.run.specs.Outcome.{agrees, differs, Outcome, refused, Result}
-use Rattle.run.specs.Run.{spokenOn, ends, judged, onTold, runFrom, runSheet}
+use Rattle.run.specs.Run.{spokenOn, ends, judged, runFrom, runSheet}
 use Rattle.run.specs.Inside.{noneGathered, withMark, slotOver, givenBy, spokenBy, Ended, Leaves}
 use Rattle.run.specs.declared.Ran.{Ran}
 use Rattle.run.specs.declared.marks.Gathered.{Gathered}
@@ -47,22 +47,18 @@ unfolding runFrom
 run-ends sheet b = refl
 
 module _ (sheet : Sheet) (b : Bench) (left : ℕ) where
-  run-slot : runFrom (suc left) sheet b
-      ≡ cond (eqb (spokenOn (marksOn sheet b) b) (heardOn sheet b))
-      (onTold (toldOn (marksOn sheet b) b) (runFrom left sheet (stepOn (marksOn sheet b) b)) (λ number place. ends sheet b (refused number place)))
-      (judged sheet b (differs (b .ring .time)))
-  unfolding runFrom
-  run-slot = refl
-
   pub run-differs : eqb (spokenOn (marksOn sheet b) b) (heardOn sheet b) ≡ false → runFrom (suc left) sheet b ≡ judged sheet b (differs (b .ring .time))
-  run-differs e = run-slot ∙ rw e
+  unfolding runFrom
+  run-differs e = rw e
 
   module _ (same : eqb (spokenOn (marksOn sheet b) b) (heardOn sheet b) ≡ true) where
     pub run-stops : {number place : ℕ} → toldOn (marksOn sheet b) b ≡ limits.refused number place → runFrom (suc left) sheet b ≡ ends sheet b (refused number place)
-    run-stops e = run-slot ∙ rw (same, e)
+    unfolding runFrom
+    run-stops e = rw (same, e)
 
     pub run-goes-on : toldOn (marksOn sheet b) b ≡ limits.done → runFrom (suc left) sheet b ≡ runFrom left sheet (stepOn (marksOn sheet b) b)
-    run-goes-on e = run-slot ∙ rw (same, e)
+    unfolding runFrom
+    run-goes-on e = rw (same, e)
 
 -- ---- the loop over the slots
 
