@@ -3,8 +3,3 @@ pub mod NumberLaws
 pub mod LineLaws
 pub mod MarkLaws
 pub mod SheetLaws
-pub mod GoodLaws
-pub mod FitLaws
-pub mod LengthLaws
-pub mod ReaderLaws
-pub mod SightLaws

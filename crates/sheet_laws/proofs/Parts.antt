@@ -13,15 +13,15 @@ use borrow.Author.Tests.{ltb-false}
 use Rattle.limits.specs.Limits.{seatsLeast, seatsMost, marksMost, slotsMost, moduleMost}
 use Rattle.limits.specs.declared.Refusal.{Refusal}
 use Rattle.limits.specs.declared.Refusal.the-variants.{ModuleTwice, BytesAfter}
 use Rattle.sheet.specs.Found.{Found, found, offence}
-use Rattle.sheet.specs.Bytes.{byteAt, isHeard}
+use Rattle.sheet.specs.Bytes.{byteAt, isKind, isHeard}
 use Rattle.sheet.specs.Lines.{ended, lineAt, linesAt, Section, sectionAt, isNew, moduleLine, slotLine}
-use Rattle.sheet.specs.Marks.{noMark, markOffence, onOption, fieldsAt, markLine}
+use Rattle.sheet.specs.Marks.{mark, noMark, markOffence, onOption, spacedAt, fieldsAt, markLine}
 use Rattle.sheet.specs.Sheets.{noModules, noMarks, noSlots, sheetFrom, sheetIn}
 use Rattle.sheet.specs.declared.Mark.{Mark}
 use Rattle.sheet.specs.declared.Sheet.{Sheet}
 use Rattle.sheet.proofs.ByteLaws.{not-both}
 use Rattle.sheet.proofs.LineLaws.{then-found, cond-found, found-value, found-next, Counted, section-found}
 
 -- ---- what a line that is found has on it, and what it makes of the entries
 
@@ -82,6 +82,29 @@ mark-line-found n s at k before after next e =
       read = p .2 ∙ ap (λ (n : ℕ). found (p .0) n) (found-next (q .1));
       good = q .0;
       kept = sym (found-value (q .1));
+    }
+
+-- the parts of a mark line
+pub record Fields (s : List ℕ) (at : ℕ) (m : Mark) (next : ℕ) : Type 0 where
+  pub seatAt : ℕ
+  pub kindAt : ℕ
+  pub time : spacedAt s at ≡ found (m .time) seatAt
+  pub seat : spacedAt s seatAt ≡ found (m .seat) kindAt
+  pub kind : ended s (byteAt isKind s kindAt) ≡ found (m .kind) next
+
+pub fields-found : (s : List ℕ) (at : ℕ) (m : Mark) (next : ℕ) → fieldsAt s at ≡ found m next → Fields s at m next
+unfolding fieldsAt
+fields-found s at m next e =
+    let a = then-found (spacedAt s at) _ m next e in
+    let b = then-found (spacedAt s (a .1)) _ m next (a .3) in
+    let k = then-found (ended s (byteAt isKind s (b .1))) _ m next (b .3) in
+    let x : mark (a .0) (b .0) (k .0) ≡ m = found-value (k .3) in
+    record {
+      seatAt = a .1;
+      kindAt = b .1;
+      time = a .2 ∙ ap (λ (m : Mark). found (m .time) (a .1)) x;
+      seat = b .2 ∙ ap (λ (m : Mark). found (m .seat) (b .1)) x;
+      kind = k .2 ∙ ap (λ (m : Mark). found (m .kind) (k .1)) x ∙ ap (λ (n : ℕ). found (m .kind) n) (found-next (k .3));
     }
 
 -- ---- the three sections of a good sheet

@@ -10,17 +10,17 @@ use lib.ListN.{length}
 use lib.Dec.{eqb, lit<}
 use borrow.Author.Tests.{eqb-false}
 use Rattle.limits.specs.Limits.{seatsLeast, seatsMost, marksMost, slotsMost, moduleMost}
 use Rattle.sheet.specs.Found.{Found, found, offence, onFound, andThen}
 use Rattle.sheet.specs.Bytes.{isDigit, isSpace, isLineFeed, byteAt, digitsAt, numberAt}
 use Rattle.sheet.specs.Lines.{endAt, ended, lineAt, linesAt}
 use Rattle.sheet.specs.Marks.{spacedAt}
 use Rattle.sheet.specs.Sheets.{sheetIn}
 use Rattle.sheet.specs.declared.Sheet.{Sheet}
 use Rattle.sheet.proofs.ByteLaws.{byte-found}
 use Rattle.sheet.proofs.NumberLaws.{digit-range}
 use Rattle.sheet.proofs.LineLaws.{then-found, found-value, found-next, ended-found, line-within}
-use Rattle.sheet.proofs.MarkLaws.{good-mark, fields-found}
-use Rattle.sheet.proofs.GoodLaws.{module-found, slot-found, mark-line-found, sheet-found}
+use Rattle.sheet.proofs.MarkLaws.{good-mark}
+use Rattle.sheet_laws.proofs.Parts.{module-found, slot-found, mark-line-found, fields-found, sheet-found}
 
 -- ---- numbers: a value says how long its digits are
 

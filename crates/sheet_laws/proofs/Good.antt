@@ -1,4 +1,4 @@
--- Every sheet that is read is good, specs/Good.antt. Assumes nothing.
+-- Every sheet that is read is good, as `GoodSheet` of `sheet` says it. Assumes nothing.
 use mathlib.Core.Path.{_≡_, refl, sym, ap, _∙_}
 use mathlib.Core.Bool.{true, not}
 use mathlib.Core.List.{List}
@@ -13,19 +13,19 @@ use borrow.Author.Tests.{ne-eqb, eqb-false, not-true}
 use Rattle.limits.specs.Limits.{seatsMost, marksMost, slotsMost, moduleMost}
 use Rattle.lists.proofs.Tests.{all-at}
 use Rattle.limits.specs.Refusals.{done}
 use Rattle.sheet.specs.Found.{Found, found, offence}
 use Rattle.sheet.specs.Bytes.{isKind, isHeard}
 use Rattle.sheet.specs.Lines.{linesAt, isNew, moduleLine, slotLine}
 use Rattle.sheet.specs.Marks.{noMark, above, ascends, markLine}
 use Rattle.sheet.specs.Sheets.{noModules, noMarks, noSlots, sheetIn, told, toldOf, sheetOf, ReadPromise}
 use Rattle.sheet.specs.Good.{GoodSheet}
 use Rattle.sheet.specs.declared.Mark.{Mark}
 use Rattle.sheet.specs.declared.Sheet.{Sheet}
 use Rattle.sheet.specs.declared.Answer.the-variants.{Read}
 use Rattle.sheet.specs.declared.Reading.{Reading}
 use Rattle.sheet.proofs.LineLaws.{then-found, line-within, lone-found}
-use Rattle.sheet.proofs.MarkLaws.{Kept, good-mark, fields-found}
-use Rattle.sheet.proofs.GoodLaws.{lines-others, module-found, slot-found, mark-line-found, sheet-found}
+use Rattle.sheet.proofs.MarkLaws.{Kept, good-mark}
+use Rattle.sheet_laws.proofs.Parts.{lines-others, module-found, slot-found, mark-line-found, fields-found, sheet-found}
 
 -- ---- what holds of each entry, where it holds of the line that made it
 

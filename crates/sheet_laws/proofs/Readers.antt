@@ -13,16 +13,11 @@ use borrow.Author.Tests.{lt-ltb, ltb-true}
 use Rattle.limits.specs.Refusals.{numberOf}
 use Rattle.limits.specs.declared.Refusal.{Refusal}
 use Rattle.limits.specs.declared.Refusal.the-variants.{EndsEarly, WrongByte, BytesAfter}
 use Rattle.sheet.specs.Found.{Found, found, offence, onFound, andThen}
 use Rattle.sheet.specs.Bytes.{isDigit, byteAt, digitsAt, numberAt}
 use Rattle.sheet.proofs.ByteLaws.{not-both, byte-found}
 use Rattle.sheet.proofs.LineLaws.{found-next, then-found}
-
--- two sheets have the same first `seen` bytes
-pub record Same (seen : ℕ) (s t : List ℕ) : Type 0 where
-  pub long : seen ≤ length s
-  pub also : seen ≤ length t
-  pub bytes : (i : ℕ) → i < seen → getD s i 0 ≡ getD t i 0
+use Rattle.sheet_laws.specs.Sight.{Same, Stopped}
 
 pub fewer : {a b : ℕ} {s t : List ℕ} → a ≤ b → Same b s t → Same a s t
 fewer l w = record { long = (let x = w .long in omega arith); also = (let x = w .also in omega arith); bytes = λ i h. w .bytes i (omega arith) }
@@ -41,18 +36,9 @@ unfoldable pub OfLine : Refusal → Type 0
 OfLine why = (3 ≤ numberOf why) × (numberOf why ≤ 6)
 
 module _ {A : Type 0} (from : ℕ) (read : List ℕ → Found A) (s : List ℕ) where
-  -- it stops, but not at the sheet's end: it has seen so many bytes, and refuses alike every sheet that has the same
-  pub record Stopped (why : Refusal) (place : ℕ) : Type 0 where
-    pub seen : ℕ
-    pub after : from ≤ seen
-    pub past : place < seen
-    pub inside : seen ≤ length s
-    pub here : (why ≡ WrongByte) ⊎ (why ≡ BytesAfter) → seen ≡ place + 1
-    pub alike : (t : List ℕ) → Same seen s t → read t ≡ offence why place
-
   pub record Stops : Type 0 where
     pub early : (place : ℕ) → read s ≡ offence EndsEarly place → place ≡ length s
-    pub other : (why : Refusal) (place : ℕ) → (why ≡ EndsEarly → ⊥) → read s ≡ offence why place → Stopped why place
+    pub other : (why : Refusal) (place : ℕ) → (why ≡ EndsEarly → ⊥) → read s ≡ offence why place → Stopped from read s why place
 
   module _ (reach : ℕ → ℕ) where
     -- it finds something: it has seen the bytes before the next place, and for a number the one there too

@@ -1,0 +1,6 @@
+pub mod Unique
+pub mod Parts
+pub mod Good
+pub mod Length
+pub mod Readers
+pub mod Sight
