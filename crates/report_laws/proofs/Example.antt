@@ -1,7 +1,6 @@
 -- The example of document 01 printed whole from its sheet, by computation; and the lines that it does not have. Assumes nothing.
 use mathlib.Core.Path.{_≡_, refl}
-use mathlib.Core.List.{List, [], _∷_, _++_}
-use Prim.Native.Nat.{ℕ}
+use mathlib.Core.List.{[], _∷_, _++_}
 use lib.Count.{onesIn}
 use Rattle.ring.specs.Ring.{freshRing, zeroRing, isRing, everySeatStands}
 use Rattle.ring.specs.Step.{turnOf}
@@ -15,34 +14,10 @@ use Rattle.sheet.specs.Sheets.{noModules, noMarks, noSlots, sheetIn}
 use Rattle.run.specs.Marks.{marksAt}
 use Rattle.run.specs.Outcome.{differs}
 use Rattle.run.specs.Run.{runFrom, runOf}
 use Rattle.report.specs.Decimal.{digitsIn, decimal}
 use Rattle.report.specs.Page.{recordLine, seatLine, busLine, outsideLine, refusedLine, verdict, pageOf}
 use Rattle.report.specs.Promise.{noTrail, textOf}
-
--- ring, marks and slots, line by line
-unfoldable pub exampleSheet : List ℕ
-exampleSheet =
-    (52 ∷ 10 ∷ 49 ∷ 49 ∷ 10 ∷ 49 ∷ 50 ∷ 10 ∷ 49 ∷ 51 ∷ 10 ∷ 49 ∷ 52 ∷ 10 ∷ [])
-    ++ (49 ∷ 10 ∷ 48 ∷ 32 ∷ 50 ∷ 32 ∷ 82 ∷ 10 ∷ [])
-    ++ (52 ∷ 10 ∷ 49 ∷ 10 ∷ 49 ∷ 10 ∷ 45 ∷ 10 ∷ 48 ∷ 10 ∷ [])
-
--- line by line as document 01 prints it
-unfoldable pub examplePage : List ℕ
-examplePage =
-    (53 ∷ 10 ∷ [])
-    ++ (48 ∷ 32 ∷ 49 ∷ 51 ∷ 32 ∷ 49 ∷ 49 ∷ 32 ∷ 99 ∷ 10 ∷ [])
-    ++ (49 ∷ 32 ∷ 49 ∷ 51 ∷ 32 ∷ 49 ∷ 51 ∷ 32 ∷ 98 ∷ 10 ∷ [])
-    ++ (50 ∷ 32 ∷ 49 ∷ 49 ∷ 32 ∷ 49 ∷ 51 ∷ 32 ∷ 99 ∷ 10 ∷ [])
-    ++ (50 ∷ 32 ∷ 49 ∷ 50 ∷ 32 ∷ 49 ∷ 51 ∷ 32 ∷ 99 ∷ 10 ∷ [])
-    ++ (50 ∷ 32 ∷ 49 ∷ 52 ∷ 32 ∷ 49 ∷ 51 ∷ 32 ∷ 99 ∷ 10 ∷ [])
-    ++ (52 ∷ 10 ∷ [])
-    ++ (49 ∷ 49 ∷ 32 ∷ 51 ∷ 32 ∷ 49 ∷ 32 ∷ 105 ∷ 110 ∷ 10 ∷ [])
-    ++ (49 ∷ 50 ∷ 32 ∷ 51 ∷ 32 ∷ 49 ∷ 32 ∷ 105 ∷ 110 ∷ 10 ∷ [])
-    ++ (49 ∷ 51 ∷ 32 ∷ 50 ∷ 32 ∷ 49 ∷ 32 ∷ 111 ∷ 117 ∷ 116 ∷ 10 ∷ [])
-    ++ (49 ∷ 52 ∷ 32 ∷ 51 ∷ 32 ∷ 49 ∷ 32 ∷ 105 ∷ 110 ∷ 10 ∷ [])
-    ++ (50 ∷ 10 ∷ [])
-    ++ (98 ∷ 117 ∷ 115 ∷ 32 ∷ 97 ∷ 103 ∷ 114 ∷ 101 ∷ 101 ∷ 115 ∷ 10 ∷ [])
-    ++ (102 ∷ 97 ∷ 117 ∷ 108 ∷ 116 ∷ 115 ∷ 32 ∷ 119 ∷ 105 ∷ 116 ∷ 104 ∷ 105 ∷ 110 ∷ 10 ∷ [])
+use Rattle.report_laws.specs.Example.{exampleSheet, examplePage}
 
 pub example-printed : textOf exampleSheet ≡ examplePage
 unfolding textOf noTrail pageOf exampleSheet examplePage recordLine seatLine decimal digitsIn onesIn runOf runFrom marksAt sheetIn noModules noMarks noSlots sectionAt linesAt moduleLine markLine slotLine isNew lineAt ended endAt numberAt digitsAt byteAt fieldsAt spacedAt markOffence stepTold ringOf trailOf verdictFound isRing everySeatStands freshRing zeroRing turnOf termsHold firstFailing

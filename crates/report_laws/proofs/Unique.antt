@@ -2,15 +2,12 @@
 use mathlib.Core.Path.{_≡_, sym, ap, _∙_}
 use mathlib.Core.List.{List}
 use Prim.Native.Nat.{ℕ, _≤_}
-use mathlib.Core.Logic.{⊎-elim}
 use native.Mathlib.Omega.{arith}
-use lib.Dec.{leb}
 use lib.ListN.{length}
 use lib.Seq.{take-all}
-use borrow.Author.Tests.{le-leb, leb-true}
+use borrow.Author.Tests.{le-leb}
 use Rattle.lists.specs.Put.{put}
-use Rattle.lists.proofs.Tests.{both}
 use Rattle.report.specs.Promise.{textOf, pageMost, PagePromise}
 
 pub one-page : (sheet page : List ℕ) (r s : ℕ) (page′ page″ : List ℕ) → PagePromise sheet page r page′ → PagePromise sheet page s page″ → (r ≡ s) × (page′ ≡ page″)
 one-page sheet page r s page′ page″ a b = (a .result ∙ sym (b .result), a .bytes ∙ sym (b .bytes))
@@ -22,11 +19,3 @@ whole-page sheet page r page′ h a =
       a .result ∙ rw (le-leb (length (textOf sheet)) (length page) l),
       a .bytes ∙ ap (put page 0) (take-all (length page) (textOf sheet) l),
     )
-
--- what is given back never reaches past the buffer
-pub within-buffer : (sheet page : List ℕ) (r : ℕ) (page′ : List ℕ) → PagePromise sheet page r page′ → r ≤ length page
-within-buffer sheet page r page′ a =
-    ⊎-elim
-    (λ e. let z : r ≡ length (textOf sheet) = a .result ∙ rw e in omega (arith, leb-true (length (textOf sheet)) (length page) e))
-    (λ e. let z : r ≡ 0 = a .result ∙ rw e in omega arith)
-    (both (leb (length (textOf sheet)) (length page)))

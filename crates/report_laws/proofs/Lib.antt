@@ -1,0 +1,4 @@
+pub mod Back
+pub mod Example
+pub mod Printed
+pub mod Unique
