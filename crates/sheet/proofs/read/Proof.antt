@@ -11,47 +11,11 @@ use Rattle.sheet.proofs.SheetLaws.{kept-refused, kept-whole}
 use Rattle.sheet.proofs.read.Statement.{statement}
 use Rattle.sheet.proofs.read.Tie as tie
 
-ring-section-requires : tie.Need-ring-section-requires
-ring-section-requires c κs = search needs
-
-enum-known-ring-end : tie.Need-enum-known-ring-end
-enum-known-ring-end c = search needs
-
-refused-requires : tie.Need-refused-requires
-refused-requires c κs = search needs
-
-enum-known-ring-end-2 : tie.Need-enum-known-ring-end-2
-enum-known-ring-end-2 c = search needs
-
 mark-section-requires : tie.Need-mark-section-requires
 mark-section-requires c κs =
     let ring = c .before .before .before .ring-section in
     let g = section-found seatsLeast seatsMost _ _ _ _ _ _ (sym (ring .ensures) ∙ ap (sectionOf (ring .result .list)) (c .before .ring-end2 .given .1)) in
     (omega arith, g .high)
-
-enum-known-marks-end : tie.Need-enum-known-marks-end
-enum-known-marks-end c = search needs
-
-refused-requires-2 : tie.Need-refused-requires-2
-refused-requires-2 c κs = search needs
-
-enum-known-marks-end-2 : tie.Need-enum-known-marks-end-2
-enum-known-marks-end-2 c = search needs
-
-slot-section-requires : tie.Need-slot-section-requires
-slot-section-requires c κs = search needs
-
-enum-known-slots-end : tie.Need-enum-known-slots-end
-enum-known-slots-end c = search needs
-
-refused-requires-3 : tie.Need-refused-requires-3
-refused-requires-3 c κs = search needs
-
-enum-known-slots-end-2 : tie.Need-enum-known-slots-end-2
-enum-known-slots-end-2 c = search needs
-
-whole-requires : tie.Need-whole-requires
-whole-requires c κs = search needs
 
 returns : tie.Need-returns
 unfolding sheetIn
@@ -79,20 +43,9 @@ pub read-spec : {M : Type 1} → statement M
 read-spec =
     tie.close
     (tie.spec
-    ring-section-requires
-    enum-known-ring-end
-    refused-requires
-    enum-known-ring-end-2
-    mark-section-requires
-    enum-known-marks-end
-    refused-requires-2
-    enum-known-marks-end-2
-    slot-section-requires
-    enum-known-slots-end
-    refused-requires-3
-    enum-known-slots-end-2
-    whole-requires
-    returns
+    (λ c κs. search needs) (λ c. search needs) (λ c κs. search needs) (λ c. search needs) mark-section-requires
+    (λ c. search needs) (λ c κs. search needs) (λ c. search needs) (λ c κs. search needs) (λ c. search needs) (λ c κs. search needs) (λ c. search needs)
+    (λ c κs. search needs) returns
     returns-2
     returns-3
     returns-4)

@@ -6,17 +6,8 @@ use Rattle.sheet.proofs.ByteLaws.{byte-here, byte-wrong, byte-ends}
 use Rattle.sheet.proofs.bytes.byte.Statement.{statement}
 use Rattle.sheet.proofs.bytes.byte.Tie as tie
 
-shared-slice-read-b : tie.Need-shared-slice-read-b
-shared-slice-read-b c = search needs
-
-fits-requires : tie.Need-fits-requires
-fits-requires c κs = search needs
-
 cast-t10 : tie.Need-cast-t10
 cast-t10 c = omega (arith, c .before .before .shared-slice-known2 .given (c .before .before .before .before .before .args .at))
-
-add-t11 : tie.Need-add-t11
-add-t11 c = search needs
 
 returns : tie.Need-returns
 returns c = sym (byte-here _ _ _ (c .before .before .before .if1 .taken) (sym (c .before .fits2 .ensures) ∙ c .if2 .taken))
@@ -28,6 +19,4 @@ returns-3 : tie.Need-returns-3
 returns-3 c = sym (byte-ends _ _ _ (c .if1 .left))
 
 pub byte-spec : {M : Type 1} → statement M
-byte-spec =
-    tie.close
-    (tie.spec shared-slice-read-b fits-requires cast-t10 add-t11 returns returns-2 returns-3)
+byte-spec = tie.close (tie.spec (λ c. search needs) (λ c κs. search needs) cast-t10 (λ c. search needs) returns returns-2 returns-3)

@@ -67,16 +67,4 @@ returns-10 c =
     simp (out 48 b 49 (inr (omega arith)), out 50 b 57 (inr (omega arith)), ne-eqb b 32 (omega arith), ne-eqb b 10 (omega arith), in-range 82 b 83 (omega arith) (omega arith))
 
 pub classify-spec : {M : Type 1} → statement M
-classify-spec =
-    tie.close
-    (tie.spec
-    returns
-    returns-2
-    returns-3
-    returns-4
-    returns-5
-    returns-6
-    returns-7
-    returns-8
-    returns-9
-    returns-10)
+classify-spec = tie.close (tie.spec returns returns-2 returns-3 returns-4 returns-5 returns-6 returns-7 returns-8 returns-9 returns-10)

@@ -13,45 +13,6 @@ use Rattle.sheet.proofs.bytes.fits.Tie as tie
 can : (w want : Want) (b : ℕ) (k : Class) → b < 256 → want ≡ w → k ≡ classOf b → canBe want b ≡ classCan w k
 can w want b k l e f = rw (e, f) (suits w b l)
 
-classify-requires : tie.Need-classify-requires
-classify-requires c κs = search needs
-
-enum-told : tie.Need-enum-told
-enum-told c = search needs
-
-is-requires : tie.Need-is-requires
-is-requires c κs = search needs
-
-is-requires-2 : tie.Need-is-requires-2
-is-requires-2 c κs = search needs
-
-enum-told-2 : tie.Need-enum-told-2
-enum-told-2 c = search needs
-
-is-requires-3 : tie.Need-is-requires-3
-is-requires-3 c κs = search needs
-
-enum-told-3 : tie.Need-enum-told-3
-enum-told-3 c = search needs
-
-is-requires-4 : tie.Need-is-requires-4
-is-requires-4 c κs = search needs
-
-enum-told-4 : tie.Need-enum-told-4
-enum-told-4 c = search needs
-
-is-requires-5 : tie.Need-is-requires-5
-is-requires-5 c κs = search needs
-
-enum-told-5 : tie.Need-enum-told-5
-enum-told-5 c = search needs
-
-is-requires-6 : tie.Need-is-requires-6
-is-requires-6 c κs = search needs
-
-is-requires-7 : tie.Need-is-requires-7
-is-requires-7 c κs = search needs
-
 returns : tie.Need-returns
 returns c = sym (can Digit _ _ _ (search needs) (c .before .before .enum-told .given .1) (c .before .before .before .before .classify .ensures) ∙ rw (← c .before .is .ensures, c .if1 .taken))
 
@@ -77,20 +38,9 @@ pub fits-spec : {M : Type 1} → statement M
 fits-spec =
     tie.close
     (tie.spec
-    classify-requires
-    enum-told
-    is-requires
-    is-requires-2
-    enum-told-2
-    is-requires-3
-    enum-told-3
-    is-requires-4
-    enum-told-4
-    is-requires-5
-    enum-told-5
-    is-requires-6
-    is-requires-7
-    returns
+    (λ c κs. search needs) (λ c. search needs) (λ c κs. search needs) (λ c κs. search needs) (λ c. search needs) (λ c κs. search needs)
+    (λ c. search needs) (λ c κs. search needs) (λ c. search needs) (λ c κs. search needs) (λ c. search needs) (λ c κs. search needs)
+    (λ c κs. search needs) returns
     returns-2
     returns-3
     returns-4

@@ -12,18 +12,6 @@ use Rattle.sheet.proofs.lines.line.Tie as tie
 read : (c : tie.After-to-end) → foundOf (c .to-end .result) ≡ ended (c .before .before .before .args .s .now) (numberAt (c .before .before .before .args .s .now) (c .before .before .before .args .at))
 read c = c .to-end .ensures ∙ ap (ended (c .before .before .before .args .s .now)) (c .before .number .ensures)
 
-number-requires : tie.Need-number-requires
-number-requires c κs = search needs
-
-to-end-requires : tie.Need-to-end-requires
-to-end-requires c κs = search needs
-
-enum-known-one : tie.Need-enum-known-one
-enum-known-one c = search needs
-
-enum-told : tie.Need-enum-told
-enum-told c = search needs
-
 returns : tie.Need-returns
 unfolding lineAt
 returns c = rw (← read (c .before .before), c .enum-told .given .1)
@@ -44,11 +32,7 @@ pub line-spec : {M : Type 1} → statement M
 line-spec =
     tie.close
     (tie.spec
-    number-requires
-    to-end-requires
-    enum-known-one
-    enum-told
-    returns
+    (λ c κs. search needs) (λ c κs. search needs) (λ c. search needs) (λ c. search needs) returns
     returns-2
     returns-3
     returns-4)

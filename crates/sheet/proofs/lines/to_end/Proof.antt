@@ -4,24 +4,9 @@ use Rattle.sheet.specs.Lines.{ended}
 use Rattle.sheet.proofs.lines.to_end.Statement.{statement}
 use Rattle.sheet.proofs.lines.to_end.Tie as tie
 
-enum-known-last : tie.Need-enum-known-last
-enum-known-last c = search needs
-
-enum-told : tie.Need-enum-told
-enum-told c = search needs
-
 returns : tie.Need-returns
 unfolding ended
 returns c = rw (c .enum-told .given .1)
-
-end-requires : tie.Need-end-requires
-end-requires c κs = search needs
-
-enum-known-stop : tie.Need-enum-known-stop
-enum-known-stop c = search needs
-
-enum-told-2 : tie.Need-enum-told-2
-enum-told-2 c = search needs
 
 returns-2 : tie.Need-returns-2
 unfolding ended
@@ -35,11 +20,6 @@ pub to-end-spec : {M : Type 1} → statement M
 to-end-spec =
     tie.close
     (tie.spec
-    enum-known-last
-    enum-told
-    returns
-    end-requires
-    enum-known-stop
-    enum-told-2
-    returns-2
+    (λ c. search needs) (λ c. search needs) returns
+    (λ c κs. search needs) (λ c. search needs) (λ c. search needs) returns-2
     returns-3)

@@ -10,36 +10,6 @@ use Rattle.sheet.proofs.LineLaws.{kind-small, lone-found}
 use Rattle.sheet.proofs.marks.fields.Statement.{statement}
 use Rattle.sheet.proofs.marks.fields.Tie as tie
 
-spaced-requires : tie.Need-spaced-requires
-spaced-requires c κs = search needs
-
-enum-known-why : tie.Need-enum-known-why
-enum-known-why c = search needs
-
-enum-known-time : tie.Need-enum-known-time
-enum-known-time c = search needs
-
-spaced-requires-2 : tie.Need-spaced-requires-2
-spaced-requires-2 c κs = search needs
-
-enum-known-why-2 : tie.Need-enum-known-why-2
-enum-known-why-2 c = search needs
-
-enum-known-seat : tie.Need-enum-known-seat
-enum-known-seat c = search needs
-
-byte-requires : tie.Need-byte-requires
-byte-requires c κs = search needs
-
-to-end-requires : tie.Need-to-end-requires
-to-end-requires c κs = search needs
-
-enum-known-why-3 : tie.Need-enum-known-why-3
-enum-known-why-3 c = search needs
-
-enum-known-kind : tie.Need-enum-known-kind
-enum-known-kind c = search needs
-
 cast-t23 : tie.Need-cast-t23
 cast-t23 c =
     let k = c .before .kind .given .0 .0 in
@@ -67,17 +37,8 @@ pub fields-spec : {M : Type 1} → statement M
 fields-spec =
     tie.close
     (tie.spec
-    spaced-requires
-    enum-known-why
-    enum-known-time
-    spaced-requires-2
-    enum-known-why-2
-    enum-known-seat
-    byte-requires
-    to-end-requires
-    enum-known-why-3
-    enum-known-kind
-    cast-t23
+    (λ c κs. search needs) (λ c. search needs) (λ c. search needs) (λ c κs. search needs) (λ c. search needs) (λ c. search needs) (λ c κs. search needs)
+    (λ c κs. search needs) (λ c. search needs) (λ c. search needs) cast-t23
     returns
     returns-2
     returns-3

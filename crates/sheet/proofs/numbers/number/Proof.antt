@@ -11,15 +11,6 @@ use Rattle.sheet.proofs.NumberLaws.{digit-range}
 use Rattle.sheet.proofs.numbers.number.Statement.{statement}
 use Rattle.sheet.proofs.numbers.number.Tie as tie
 
-byte-requires : tie.Need-byte-requires
-byte-requires c κs = search needs
-
-enum-known-one : tie.Need-enum-known-one
-enum-known-one c = search needs
-
-enum-told : tie.Need-enum-told
-enum-told c = search needs
-
 returns : tie.Need-returns
 unfolding numberAt
 returns c = rw (← c .before .before .byte .ensures, c .enum-told .given .1)
@@ -45,10 +36,7 @@ pub number-spec : {M : Type 1} → statement M
 number-spec =
     tie.close
     (tie.spec
-    byte-requires
-    enum-known-one
-    enum-told
-    returns
+    (λ c κs. search needs) (λ c. search needs) (λ c. search needs) returns
     returns-2
     sub-digits
     digits-requires

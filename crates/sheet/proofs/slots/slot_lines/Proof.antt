@@ -17,26 +17,11 @@ Inv-loop s start count list₀ at₀ k₀ list at k = Reached (slotLine s) count
 abbrev μ-loop : tie.MeasureT-loop
 μ-loop s start count list₀ at₀ k₀ list at k = count - k
 
-no-slots-requires : tie.Need-no-slots-requires Inv-loop μ-loop
-no-slots-requires c κs = search needs
-
 loop-holds : tie.Need-loop-holds Inv-loop μ-loop
 loop-holds c = rw (c .no-slots .ensures) (begins _ _ _ _)
 
-byte-requires : tie.Need-byte-requires Inv-loop μ-loop
-byte-requires c κs = search needs
-
-to-end-requires : tie.Need-to-end-requires Inv-loop μ-loop
-to-end-requires c κs = search needs
-
 read : (c : tie.After-to-end Inv-loop μ-loop) → foundOf (c .to-end .result) ≡ ended (c .before .before .before .before .before .before .args .s .now) (byteAt isHeard (c .before .before .before .before .before .before .args .s .now) (c .before .before .before .loop .at))
 read c = c .to-end .ensures ∙ ap (ended (c .before .before .before .before .before .before .args .s .now)) (c .before .byte .ensures)
-
-enum-known-one : tie.Need-enum-known-one Inv-loop μ-loop
-enum-known-one c = search needs
-
-enum-told : tie.Need-enum-told Inv-loop μ-loop
-enum-told c = search needs
 
 returns : tie.Need-returns Inv-loop μ-loop
 unfolding slotLine
@@ -50,15 +35,6 @@ cast-list c =
     let v = c .before .one .given .0 .0 in
     omega (arith, heard-small v (lone-found isHeard _ _ v _ (sym (read (c .before .before .before)) ∙ ap foundOf (c .before .one .given .1))))
 
-array-write-list : tie.Need-array-write-list Inv-loop μ-loop
-array-write-list c = search needs
-
-add-k : tie.Need-add-k Inv-loop μ-loop
-add-k c = search needs
-
-loop-less : tie.Need-loop-less Inv-loop μ-loop
-loop-less c = search needs
-
 loop-again : tie.Need-loop-again Inv-loop μ-loop
 unfolding slotLine
 loop-again c = goes-on _ _ _ _ _ _ _ (c .before .before .before .before .before .before .loop .inv) (c .before .before .before .before .before .loop-test .taken) _ _ (rw (← read (c .before .before .before), c .before .one .given .1))
@@ -70,18 +46,8 @@ pub slot-lines-spec : {M : Type 1} → statement M
 slot-lines-spec =
     tie.close
     (tie.spec
-    Inv-loop
-    μ-loop
-    no-slots-requires
-    loop-holds
-    byte-requires
-    to-end-requires
-    enum-known-one
-    enum-told
-    returns
+    Inv-loop μ-loop (λ c κs. search needs) loop-holds
+    (λ c κs. search needs) (λ c κs. search needs) (λ c. search needs) (λ c. search needs) returns
     cast-list
-    array-write-list
-    add-k
-    loop-less
-    loop-again
+    (λ c. search needs) (λ c. search needs) (λ c. search needs) loop-again
     returns-2)

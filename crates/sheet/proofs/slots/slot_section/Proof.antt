@@ -9,21 +9,6 @@ use Rattle.sheet.proofs.LineLaws.{line-within}
 use Rattle.sheet.proofs.slots.slot_section.Statement.{statement}
 use Rattle.sheet.proofs.slots.slot_section.Tie as tie
 
-cast-line : tie.Need-cast-line
-cast-line c = search needs
-
-line-requires : tie.Need-line-requires
-line-requires c κs = search needs
-
-enum-known-count : tie.Need-enum-known-count
-enum-known-count c = search needs
-
-enum-told : tie.Need-enum-told
-enum-told c = search needs
-
-no-slots-requires : tie.Need-no-slots-requires
-no-slots-requires c κs = search needs
-
 returns : tie.Need-returns
 unfolding sectionAt
 returns c = rw (← c .before .before .before .line .ensures, c .before .enum-told .given .1)
@@ -39,11 +24,6 @@ pub slot-section-spec : {M : Type 1} → statement M
 slot-section-spec =
     tie.close
     (tie.spec
-    cast-line
-    line-requires
-    enum-known-count
-    enum-told
-    no-slots-requires
-    returns
+    (λ c. search needs) (λ c κs. search needs) (λ c. search needs) (λ c. search needs) (λ c κs. search needs) returns
     slot-lines-requires
     returns-2)
