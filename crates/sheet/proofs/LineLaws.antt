@@ -13,6 +13,9 @@ use Rattle.limits.specs.declared.Refusal.the-variants.{OutsideLimits}
 use Rattle.sheet.specs.Found.{Found, found, offence, andThen}
 use Rattle.sheet.specs.Bytes.{byteAt, numberAt, isHeard, isKind}
 use Rattle.sheet.specs.Lines.{endAt, ended, within, lineAt, linesAt, Section, section, entriesAt, sectionAt, isNew}
+use Rattle.sheet.specs.Inside.{foundOf, sectionOf}
+use Rattle.sheet.specs.declared.bytes.Piece.{Piece}
+use Rattle.sheet.specs.declared.bytes.Piece.the-variants as piece
 use Rattle.sheet.proofs.ByteLaws.{not-both, byte-found}
 
 -- ---- what was found, taken apart
@@ -149,3 +152,21 @@ section-found least most line none s at whole next e =
       low = omega arith;
       high = omega arith;
     }
+
+-- ---- a section as the code reads it: by the piece that its count is
+
+module _ (least most : ℕ) (s : List ℕ) (at : ℕ) {count : Piece} where
+  -- the count found is within its limits
+  pub count-within : foundOf count ≡ lineAt least most s at → {n first : ℕ} → count ≡ piece.Found n first → (least ≤ n) × (n ≤ most)
+  count-within e f = let w = line-within least most s at _ _ (sym e ∙ ap foundOf f) in (w .0, w .1)
+
+  module _ {A : Type 0} (line : ℕ → ℕ → List A → Found (List A)) (none : List A) (e : foundOf count ≡ lineAt least most s at) where
+    -- one that is refused refuses the section
+    pub count-refused : (entries : List A) {why : Refusal} {place : ℕ} → count ≡ piece.Offence why place → sectionOf entries count ≡ sectionAt least most line none s at
+    unfolding sectionAt
+    count-refused entries f = rw (← e, f)
+
+    -- after one that is found come as many lines
+    pub count-lines : {n first : ℕ} {x : Found (Section A)} → count ≡ piece.Found n first → x ≡ entriesAt line none n first → x ≡ sectionAt least most line none s at
+    unfolding sectionAt
+    count-lines f l = rw (← e, f) l
