@@ -3,10 +3,11 @@ use mathlib.Core.Bool.{cond}
 use mathlib.Core.List.{List, [], _∷_, _++_}
 use Prim.Native.Nat.{ℕ, zero, suc, _+_, _/_, _%_}
 use lib.Dec.{ltb}
+use Rattle.sheet.specs.Bytes.{digitZero}
 
 -- the digit d as its ASCII byte
 abbrev pub digit : ℕ → ℕ
-digit d = 48 + d
+digit d = digitZero + d
 
 -- a number below 10 is one digit; any other is its tens and then its last digit. `more` bounds the number of digits
 unfoldable pub digitsIn : ℕ → ℕ → List ℕ

@@ -7,6 +7,17 @@ use lib.Dec.{ltb, leb, eqb}
 use Rattle.limits.specs.declared.Refusal.the-variants.{EndsEarly, WrongByte}
 use Rattle.sheet.specs.Found.{Found, found, offence, onFound, andThen}
 
+-- what parts the words of a line, and what ends the line, in ASCII
+abbrev pub space : ℕ
+space = 32
+
+abbrev pub lineFeed : ℕ
+lineFeed = 10
+
+-- the digit 0; the others come after it
+abbrev pub digitZero : ℕ
+digitZero = 48
+
 -- the kinds of marks in ASCII: `S`, `R` and `D`
 abbrev pub send : ℕ
 send = 83
@@ -31,13 +42,13 @@ heardSilence = 45
 
 -- `0` to `9`
 abbrev pub isDigit : ℕ → Bool
-isDigit byte = leb 48 byte && leb byte 57
+isDigit byte = leb digitZero byte && leb byte (digitZero + 9)
 
 abbrev pub isSpace : ℕ → Bool
-isSpace byte = eqb byte 32
+isSpace byte = eqb byte space
 
 abbrev pub isLineFeed : ℕ → Bool
-isLineFeed byte = eqb byte 10
+isLineFeed byte = eqb byte lineFeed
 
 abbrev pub isKind : ℕ → Bool
 isKind byte = eqb byte send || eqb byte receive || eqb byte dark
@@ -57,9 +68,9 @@ byteAt can sheet at =
 unfoldable pub digitsAt : ℕ → ℕ → List ℕ → ℕ → Found ℕ
 digitsAt zero value sheet at = found value at
 digitsAt (suc k) value sheet at =
-    onFound (byteAt isDigit sheet at) (λ digit next. digitsAt k (value * 10 + (digit - 48)) sheet next) (λ why place. found value at)
+    onFound (byteAt isDigit sheet at) (λ digit next. digitsAt k (value * 10 + (digit - digitZero)) sheet next) (λ why place. found value at)
 
 -- a number: 1 to 5 digits without a leading zero (`0` itself is allowed)
 unfoldable pub numberAt : List ℕ → ℕ → Found ℕ
 numberAt sheet at =
-    andThen (byteAt isDigit sheet at) (λ digit next. cond (eqb digit 48) (found 0 next) (digitsAt 4 (digit - 48) sheet next))
+    andThen (byteAt isDigit sheet at) (λ digit next. cond (eqb digit digitZero) (found 0 next) (digitsAt 4 (digit - digitZero) sheet next))

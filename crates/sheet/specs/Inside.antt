@@ -1,5 +1,5 @@
 -- What the reader's private answers say in the words of the definitions. Nothing that is promised of `read` rests on this file.
-use Prim.Native.Nat.{ℕ}
+use Prim.Native.Nat.{ℕ, _+_}
 use mathlib.Core.Bool.{Bool, cond, _&&_, _||_}
 use mathlib.Core.List.{List}
 use mathlib.Core.Option.{Option, none, some}
@@ -8,7 +8,7 @@ use lib.Dec.{ltb, leb, eqb}
 use Rattle.limits.specs.declared.Refusal.{Refusal}
 use Rattle.limits.specs.declared.Refusal.the-variants.{BytesAfter}
 use Rattle.sheet.specs.Found.{Found, found, offence}
-use Rattle.sheet.specs.Bytes.{isDigit, isSpace, isLineFeed, isKind, isHeard}
+use Rattle.sheet.specs.Bytes.{space, lineFeed, digitZero, send, receive, dark, heardOne, heardZero, heardSilence, isDigit, isSpace, isLineFeed, isKind, isHeard}
 use Rattle.sheet.specs.Lines.{Section, section}
 use Rattle.sheet.specs.Marks.{mark}
 use Rattle.sheet.specs.Sheets.{noSheet}
@@ -30,12 +30,12 @@ use Rattle.sheet.specs.declared.marks.Check.the-variants as check
 -- the class of a byte
 unfoldable pub classOf : ℕ → Class
 classOf b =
-    cond (leb 48 b && leb b 49) Bit
-    (cond (leb 50 b && leb b 57) Digit
-    (cond (eqb b 32) Space
-    (cond (eqb b 10) Feed
-    (cond ((leb 82 b && leb b 83) || eqb b 68) Kind
-    (cond (eqb b 45) Silence Other)))))
+    cond (leb heardZero b && leb b heardOne) Bit
+    (cond (leb (digitZero + 2) b && leb b (digitZero + 9)) Digit
+    (cond (eqb b space) Space
+    (cond (eqb b lineFeed) Feed
+    (cond ((leb receive b && leb b send) || eqb b dark) Kind
+    (cond (eqb b heardSilence) Silence Other)))))
 
 -- the classes by number
 abbrev pub codeOf : Class → ℕ

@@ -35,12 +35,12 @@ fn classify(b: u8) -> Class
     ensures { λ r. ⌜ r ≡ classOf b ⌝ }
 {
     match b {
-        b'0'..=b'1' => Class::Bit,
+        crate::HEARD_ZERO..=crate::HEARD_ONE => Class::Bit,
         b'2'..=b'9' => Class::Digit,
-        b' ' => Class::Space,
-        b'\n' => Class::Feed,
-        b'R'..=b'S' | b'D' => Class::Kind,
-        b'-' => Class::Silence,
+        crate::SPACE => Class::Space,
+        crate::LINE_FEED => Class::Feed,
+        crate::RECEIVE..=crate::SEND | crate::DARK => Class::Kind,
+        crate::HEARD_SILENCE => Class::Silence,
         _ => Class::Other,
     }
 }

@@ -12,6 +12,10 @@ mod modules; // modules.rt: the first section
 mod marks; // marks.rt: the second section
 mod slots; // slots.rt: the third section
 
+// What parts the words of a line, and what ends the line.
+pub const SPACE: u8 = b' ';
+
+pub const LINE_FEED: u8 = b'\n';
 // The kinds of marks.
 pub const SEND: u8 = b'S';
 
