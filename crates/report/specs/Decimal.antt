@@ -3,7 +3,7 @@ use mathlib.Core.Bool.{cond}
 use mathlib.Core.List.{List, [], _∷_, _++_}
 use Prim.Native.Nat.{ℕ, zero, suc, _+_, _/_, _%_}
 use lib.Dec.{ltb}
-use Rattle.sheet.specs.Bytes.{digitZero}
+use Rattle.sheet_lines.specs.Bytes.{digitZero}
 
 -- the digit d as its ASCII byte
 abbrev pub digit : ℕ → ℕ

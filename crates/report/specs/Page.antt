@@ -9,7 +9,7 @@ use Rattle.ring.specs.Ring.{seatOf, out}
 use Rattle.ring.specs.Trail.{width}
 use Rattle.ring.specs.Refusals.{within, outside, unfit}
 use Rattle.ring.specs.declared.Ring.{Ring}
-use Rattle.sheet.specs.Bytes.{space, lineFeed}
+use Rattle.sheet_lines.specs.Bytes.{space, lineFeed}
 use Rattle.run.specs.Outcome.{Heard, agrees, differs, Outcome, ran, refused, Result}
 use Rattle.report.specs.Decimal.{decimal}
 

@@ -12,7 +12,7 @@ use borrow.Author.Tests.{ltb-true, eqb-true, eqb-false, eq-eqb, ne-eqb, le-leb, 
 use Rattle.lists.proofs.Tests.{both, and-true}
 use Rattle.seats.specs.Sets.{hasSeat, withoutSeat}
 use Rattle.seats.proofs.Sets.{nobody-in, same-sets, without-le, without-same, without-other}
-use Rattle.sheet.specs.Bytes.{send, receive, dark}
+use Rattle.sheet_lines.specs.Bytes.{send, receive, dark}
 use Rattle.sheet.specs.Marks.{above}
 use Rattle.sheet.specs.Good.{markOf, GoodSheet}
 use Rattle.sheet.specs.declared.Mark.{Mark}

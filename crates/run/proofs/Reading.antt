@@ -8,7 +8,7 @@ use Rattle.limits.specs.declared.Refusal.{Refusal}
 use Rattle.ring.specs.Ring.{zeroRing}
 use Rattle.ring.specs.declared.Ring.{Ring}
 use Rattle.steps.proofs.Taken.{not-done}
-use Rattle.sheet.specs.Found.{Found, found, offence}
+use Rattle.sheet_lines.specs.Found.{Found, found, offence}
 use Rattle.sheet.specs.Good.{GoodSheet}
 use Rattle.sheet.specs.Sheets.{noSheet, sheetIn, told, toldOf, sheetOf, ReadPromise}
 use Rattle.sheet.specs.declared.Sheet.{Sheet}

@@ -20,7 +20,7 @@ use Rattle.steps.specs.Run.{Marks, Bench, toldOn, stepOn, freshBench}
 use Rattle.steps.proofs.Taken.{told-is, told-taken}
 use Rattle.steps.proofs.After.{length-after, room-bytes}
 use Rattle.steps.proofs.Reached.{fresh-n, fresh-time, step-after, step-refused}
-use Rattle.sheet.specs.Bytes.{heardOne, heardZero, heardSilence}
+use Rattle.sheet_lines.specs.Bytes.{heardOne, heardZero, heardSilence}
 use Rattle.sheet.specs.Good as sheets
 use Rattle.sheet.specs.Good.{GoodSheet}
 use Rattle.sheet.specs.declared.Sheet.{Sheet}

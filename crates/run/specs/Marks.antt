@@ -4,7 +4,7 @@ use Prim.Native.Nat.{ℕ, zero, suc, _%_, _^_}
 use lib.Dec.{leb, eqb}
 use Rattle.lists.specs.Counted.{sum}
 use Rattle.steps.specs.Run.{Marks}
-use Rattle.sheet.specs.Bytes.{send, receive, dark}
+use Rattle.sheet_lines.specs.Bytes.{send, receive, dark}
 use Rattle.sheet.specs.Good.{markOf}
 use Rattle.sheet.specs.declared.Mark.{Mark}
 use Rattle.sheet.specs.declared.Sheet.{Sheet}

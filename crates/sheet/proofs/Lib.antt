@@ -1,5 +1,3 @@
-pub mod ByteLaws
-pub mod NumberLaws
-pub mod LineLaws
+pub mod SectionLaws
 pub mod MarkLaws
 pub mod SheetLaws

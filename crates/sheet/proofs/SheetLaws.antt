@@ -7,7 +7,7 @@ use lib.ListN.{length}
 use lib.Dec.{ltb}
 use Rattle.limits.specs.declared.Refusal.{Refusal}
 use Rattle.limits.specs.declared.Refusal.the-variants.{BytesAfter}
-use Rattle.sheet.specs.Found.{found, offence}
+use Rattle.sheet_lines.specs.Found.{found, offence}
 use Rattle.sheet.specs.Sheets.{sheetIn, ReadPromise}
 use Rattle.sheet.specs.Inside.{refusedWith, wholeOf}
 use Rattle.sheet.specs.declared.Sheet.{Sheet}

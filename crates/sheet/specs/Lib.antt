@@ -1,6 +1,4 @@
-pub mod Found
-pub mod Bytes
-pub mod Lines
+pub mod Sections
 pub mod Marks
 pub mod Sheets
 pub mod Good

@@ -13,9 +13,9 @@ use borrow.Author.Tests.{ne-eqb, eqb-false, not-true}
 use Rattle.limits.specs.Limits.{seatsMost, marksMost, slotsMost, moduleMost}
 use Rattle.lists.proofs.Tests.{all-at}
 use Rattle.limits.specs.Refusals.{done}
-use Rattle.sheet.specs.Found.{Found, found, offence}
-use Rattle.sheet.specs.Bytes.{isKind, isHeard}
-use Rattle.sheet.specs.Lines.{linesAt, isNew, moduleLine, slotLine}
+use Rattle.sheet_lines.specs.Found.{Found, found, offence}
+use Rattle.sheet_lines.specs.Bytes.{isKind, isHeard}
+use Rattle.sheet.specs.Sections.{linesAt, isNew, moduleLine, slotLine}
 use Rattle.sheet.specs.Marks.{noMark, above, ascends, markLine}
 use Rattle.sheet.specs.Sheets.{noModules, noMarks, noSlots, sheetIn, told, toldOf, sheetOf, ReadPromise}
 use Rattle.sheet.specs.Good.{GoodSheet}
@@ -23,7 +23,7 @@ use Rattle.sheet.specs.declared.Mark.{Mark}
 use Rattle.sheet.specs.declared.Sheet.{Sheet}
 use Rattle.sheet.specs.declared.Answer.the-variants.{Read}
 use Rattle.sheet.specs.declared.Reading.{Reading}
-use Rattle.sheet.proofs.LineLaws.{then-found, line-within, lone-found}
+use Rattle.sheet_lines.proofs.LineLaws.{then-found, line-within, lone-found}
 use Rattle.sheet.proofs.MarkLaws.{Kept, good-mark}
 use Rattle.sheet_laws.proofs.Parts.{lines-others, module-found, slot-found, mark-line-found, fields-found, sheet-found}
 

@@ -10,15 +10,15 @@ use lib.ListN.{length}
 use lib.Dec.{eqb, lit<}
 use borrow.Author.Tests.{eqb-false}
 use Rattle.limits.specs.Limits.{seatsLeast, seatsMost, marksMost, slotsMost, moduleMost}
-use Rattle.sheet.specs.Found.{Found, found, offence, onFound, andThen}
-use Rattle.sheet.specs.Bytes.{isDigit, isSpace, isLineFeed, byteAt, digitsAt, numberAt}
-use Rattle.sheet.specs.Lines.{endAt, ended, lineAt, linesAt}
-use Rattle.sheet.specs.Marks.{spacedAt}
+use Rattle.sheet_lines.specs.Found.{Found, found, offence, onFound, andThen}
+use Rattle.sheet_lines.specs.Bytes.{isDigit, isSpace, isLineFeed, byteAt, digitsAt, numberAt}
+use Rattle.sheet_lines.specs.Lines.{endAt, ended, lineAt, spacedAt}
+use Rattle.sheet.specs.Sections.{linesAt}
 use Rattle.sheet.specs.Sheets.{sheetIn}
 use Rattle.sheet.specs.declared.Sheet.{Sheet}
-use Rattle.sheet.proofs.ByteLaws.{byte-found}
-use Rattle.sheet.proofs.NumberLaws.{digit-range}
-use Rattle.sheet.proofs.LineLaws.{then-found, found-value, found-next, ended-found, line-within}
+use Rattle.sheet_lines.proofs.ByteLaws.{byte-found}
+use Rattle.sheet_lines.proofs.NumberLaws.{digit-range}
+use Rattle.sheet_lines.proofs.LineLaws.{then-found, found-value, found-next, ended-found, line-within}
 use Rattle.sheet.proofs.MarkLaws.{good-mark}
 use Rattle.sheet_laws.proofs.Parts.{module-found, slot-found, mark-line-found, fields-found, sheet-found}
 

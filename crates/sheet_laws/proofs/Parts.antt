@@ -13,15 +13,17 @@ use borrow.Author.Tests.{ltb-false}
 use Rattle.limits.specs.Limits.{seatsLeast, seatsMost, marksMost, slotsMost, moduleMost}
 use Rattle.limits.specs.declared.Refusal.{Refusal}
 use Rattle.limits.specs.declared.Refusal.the-variants.{ModuleTwice, BytesAfter}
-use Rattle.sheet.specs.Found.{Found, found, offence}
-use Rattle.sheet.specs.Bytes.{byteAt, isKind, isHeard}
-use Rattle.sheet.specs.Lines.{ended, lineAt, linesAt, Section, sectionAt, isNew, moduleLine, slotLine}
-use Rattle.sheet.specs.Marks.{mark, noMark, markOffence, onOption, spacedAt, fieldsAt, markLine}
+use Rattle.sheet_lines.specs.Found.{Found, found, offence}
+use Rattle.sheet_lines.specs.Bytes.{byteAt, isKind, isHeard}
+use Rattle.sheet_lines.specs.Lines.{ended, lineAt, spacedAt}
+use Rattle.sheet.specs.Sections.{linesAt, Section, sectionAt, isNew, moduleLine, slotLine}
+use Rattle.sheet.specs.Marks.{mark, noMark, markOffence, onOption, fieldsAt, markLine}
 use Rattle.sheet.specs.Sheets.{noModules, noMarks, noSlots, sheetFrom, sheetIn}
 use Rattle.sheet.specs.declared.Mark.{Mark}
 use Rattle.sheet.specs.declared.Sheet.{Sheet}
-use Rattle.sheet.proofs.ByteLaws.{not-both}
-use Rattle.sheet.proofs.LineLaws.{then-found, cond-found, found-value, found-next, Counted, section-found}
+use Rattle.sheet_lines.proofs.ByteLaws.{not-both}
+use Rattle.sheet_lines.proofs.LineLaws.{then-found, cond-found, found-value, found-next}
+use Rattle.sheet.proofs.SectionLaws.{Counted, section-found}
 
 -- ---- what a line that is found has on it, and what it makes of the entries
 

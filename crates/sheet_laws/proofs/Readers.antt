@@ -13,10 +13,10 @@ use borrow.Author.Tests.{lt-ltb, ltb-true}
 use Rattle.limits.specs.Refusals.{numberOf}
 use Rattle.limits.specs.declared.Refusal.{Refusal}
 use Rattle.limits.specs.declared.Refusal.the-variants.{EndsEarly, WrongByte, BytesAfter}
-use Rattle.sheet.specs.Found.{Found, found, offence, onFound, andThen}
-use Rattle.sheet.specs.Bytes.{isDigit, byteAt, digitsAt, numberAt}
-use Rattle.sheet.proofs.ByteLaws.{not-both, byte-found}
-use Rattle.sheet.proofs.LineLaws.{found-next, then-found}
+use Rattle.sheet_lines.specs.Found.{Found, found, offence, onFound, andThen}
+use Rattle.sheet_lines.specs.Bytes.{isDigit, byteAt, digitsAt, numberAt}
+use Rattle.sheet_lines.proofs.ByteLaws.{not-both, byte-found}
+use Rattle.sheet_lines.proofs.LineLaws.{found-next, then-found}
 use Rattle.sheet_laws.specs.Sight.{Same, Stopped}
 
 pub fewer : {a b : ℕ} {s t : List ℕ} → a ≤ b → Same b s t → Same a s t

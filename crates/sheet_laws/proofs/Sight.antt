@@ -15,14 +15,15 @@ use Rattle.limits.specs.Limits.{seatsLeast, seatsMost, marksMost, slotsMost, mo
 use Rattle.limits.specs.Refusals.{numberOf}
 use Rattle.limits.specs.declared.Refusal.{Refusal}
 use Rattle.limits.specs.declared.Refusal.the-variants.{EndsEarly, WrongByte, OutsideLimits, ModuleTwice, MarkNotAbove, WrongMark, BytesAfter}
-use Rattle.sheet.specs.Found.{Found, found, offence, andThen}
-use Rattle.sheet.specs.Bytes.{isSpace, isLineFeed, isKind, isHeard, byteAt, numberAt}
-use Rattle.sheet.specs.Lines.{endAt, ended, within, lineAt, linesAt, section, entriesAt, sectionAt, isNew, moduleLine, slotLine}
-use Rattle.sheet.specs.Marks.{mark, noMark, markWithin, ascends, allowed, markOffence, onOption, spacedAt, fieldsAt, markLine}
+use Rattle.sheet_lines.specs.Found.{Found, found, offence, andThen}
+use Rattle.sheet_lines.specs.Bytes.{isSpace, isLineFeed, isKind, isHeard, byteAt, numberAt}
+use Rattle.sheet_lines.specs.Lines.{endAt, ended, within, lineAt, spacedAt}
+use Rattle.sheet.specs.Sections.{linesAt, section, entriesAt, sectionAt, isNew, moduleLine, slotLine}
+use Rattle.sheet.specs.Marks.{mark, noMark, markWithin, ascends, allowed, markOffence, onOption, fieldsAt, markLine}
 use Rattle.sheet.specs.Sheets.{noModules, noMarks, noSlots, sheetFrom, sheetIn}
 use Rattle.sheet.specs.declared.Mark.{Mark}
 use Rattle.sheet.specs.declared.Sheet.{Sheet}
-use Rattle.sheet.proofs.ByteLaws.{not-both}
+use Rattle.sheet_lines.proofs.ByteLaws.{not-both}
 use Rattle.sheet_laws.specs.Sight.{Same, Stopped}
 use Rattle.sheet_laws.proofs.Readers.{fewer, OfLine, Stops, Sees, before, through, near, next-to, then-stops, then-sees, rests, tests, later, byte-sees, number-sees}
 

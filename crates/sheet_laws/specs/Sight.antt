@@ -6,7 +6,7 @@ use Prim.Native.Nat.{ℕ, _+_, _≤_, _<_}
 use lib.ListN.{length, getD}
 use Rattle.limits.specs.declared.Refusal.{Refusal}
 use Rattle.limits.specs.declared.Refusal.the-variants.{WrongByte, BytesAfter}
-use Rattle.sheet.specs.Found.{Found, offence}
+use Rattle.sheet_lines.specs.Found.{Found, offence}
 
 -- two sheets have the same first `seen` bytes
 pub record Same (seen : ℕ) (s t : List ℕ) : Type 0 where

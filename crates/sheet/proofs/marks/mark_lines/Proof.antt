@@ -9,7 +9,7 @@ use Rattle.limits.specs.Limits.{marksMost, slotsMost}
 use Rattle.sheet.specs.Marks.{noMark, markLine}
 use Rattle.sheet.specs.Sheets.{noMarks}
 use Rattle.sheet.specs.Inside.{offenceOf}
-use Rattle.sheet.proofs.LineLaws.{Reached, begins, goes-on, stops, ends}
+use Rattle.sheet.proofs.SectionLaws.{Reached, begins, goes-on, stops, ends}
 use Rattle.sheet.proofs.MarkLaws.{good-mark}
 use Rattle.sheet.proofs.marks.mark_lines.Statement.{statement}
 use Rattle.sheet.proofs.marks.mark_lines.Tie as tie
