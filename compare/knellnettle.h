@@ -10,11 +10,11 @@
 extern "C" {
 #endif
 
-/* A page buffer of this many bytes is never too short, whatever the sheet. */
+/* A page buffer of this many bytes is never too short, whatever the sheet: PAGE_MOST of crates/report. */
 #define KNELLNETTLE_PAGE_BYTES 21504
 
 /*
- * Runs the sheet with a trail of 5,120 bytes and writes the page that document 01 fixes:
+ * Runs the sheet with a trail of its own and writes the page that document 01 fixes:
  * the records, the seats and the verdict, or one line `refused NUMBER PLACE`.
  *
  *   sheet, sheet_len   the sheet's bytes, as they came: every sequence of bytes has a page.

@@ -14,15 +14,15 @@ size knellnettle_page(const byte *sheet, size sheet_len, byte *page, size page_l
 long read(int file, void *to, size length);
 long write(int file, const void *from, size length);
 
-enum { HEAD = 12, SHEET_MOST = 1 << 16, PAGE_MOST = 21504, GUARD = 16, GUARD_BYTE = 0x55 };
+enum { HEAD = 12, SHEET_MOST = 1 << 16, GUARD = 16, GUARD_BYTE = 0x55 };
 
 /* How the program ends. */
 enum { DONE = 0, CUT_SHORT = 2, TOO_LONG = 3, NOT_WRITTEN = 4, GUARD_CHANGED = 5 };
 
 static byte request[HEAD + SHEET_MOST];
 
-/* The answers not yet written, and room for one more. */
-enum { ANSWER_MOST = 4 + PAGE_MOST + GUARD, ANSWERS_MOST = 1 << 18 };
+/* The answers not yet written: each a result and a page, with the bytes that are watched behind the last. */
+enum { ANSWERS_MOST = 1 << 18, BESIDE_PAGE = 4 + GUARD };
 static byte answers[ANSWERS_MOST];
 static size answered;
 
@@ -72,11 +72,12 @@ int main(void) {
         if (have == 0) return DONE;
         if (have < HEAD) return CUT_SHORT;
         size sheet_len = number(request), page_len = number(request + 4);
-        if (sheet_len > SHEET_MOST || page_len > PAGE_MOST) return TOO_LONG;
+        if (sheet_len > SHEET_MOST || page_len > ANSWERS_MOST - BESIDE_PAGE) return TOO_LONG;
         if (fill(request + HEAD, sheet_len) < sheet_len) return CUT_SHORT;
+        if (ANSWERS_MOST - answered < page_len + BESIDE_PAGE && !flush()) return NOT_WRITTEN;
         int ended = reply(sheet_len, page_len);
         if (ended != DONE) return ended;
         int waited_for = number(request + 8) != 0;
-        if ((waited_for || ANSWERS_MOST - answered < ANSWER_MOST) && !flush()) return NOT_WRITTEN;
+        if (waited_for && !flush()) return NOT_WRITTEN;
     }
 }

@@ -13,7 +13,7 @@ mod relayed;
 #[cfg(not(target_arch = "x86_64"))]
 use relayed as side;
 
-/// A page buffer of this many bytes is never too short.
+/// A page buffer of this many bytes is never too short: `PAGE_MOST` of crates/report.
 pub const PAGE_BYTES: usize = 21_504;
 
 /// Whether the library runs under an emulator, so that its times say nothing.

@@ -86,6 +86,7 @@ impl<'a> Schedule<'a> {
 #[cfg(test)]
 mod tests {
     use super::*;
+    use crate::page::TRAIL_BYTES;
     use crate::refusal::Reason;
 
     const FIRST: &[u8] = b"4\n11\n12\n13\n14\n1\n0 2 R\n4\n1\n1\n-\n0\n";
@@ -114,7 +115,7 @@ mod tests {
         let mut sheet = FIRST.to_vec();
         let slot_2 = sheet.len() - 4;
         sheet[slot_2] = b'1';
-        let run = run(&sheet, &mut [0; 5_120]);
+        let run = run(&sheet, &mut [0; TRAIL_BYTES]);
         let verdict = Verdict { bus_differs: Some(2), faults_outside: None };
         assert_eq!((run.answer, run.ring.time, run.ring.records), (Ok(verdict), 2, 2));
     }

@@ -1,5 +1,6 @@
 //! Steps of the ring as document 01's reference runs, refusal table and list of errors have them.
 
+use compare::page::TRAIL_BYTES;
 use compare::refusal::Reason;
 use compare::ring::{Ring, Seat, SeatSet, StepMarks, MAX_TIME};
 use compare::trail::RECORD_BYTES;
@@ -12,7 +13,7 @@ enum Fault {
 
 /// A ring after some steps, and its trail.
 fn ring_after(n: usize, steps: usize, faults: &[(usize, Fault)]) -> (Ring, Vec<u8>) {
-    let mut trail = vec![0; 5_120];
+    let mut trail = vec![0; TRAIL_BYTES];
     let mut ring = Ring::fresh(n).unwrap();
     for time in 0..steps {
         let mut marks = StepMarks::default();

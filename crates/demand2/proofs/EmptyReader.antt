@@ -4,9 +4,10 @@ use mathlib.Core.Path.{_≡_, refl, sym, ap, _∙_}
 use Prim.Native.Nat.{ℕ}
 use Rattle.limits.specs.Refusals.{done, refused}
 use Rattle.steps.proofs.Taken.{not-done}
-use Rattle.sheet.specs.Bytes.{byteAt, digitsAt, numberAt}
-use Rattle.sheet.specs.Lines.{endAt, ended, lineAt, linesAt, sectionAt, isNew, moduleLine, slotLine}
-use Rattle.sheet.specs.Marks.{markOffence, spacedAt, fieldsAt, markLine}
+use Rattle.sheet_lines.specs.Bytes.{byteAt, digitsAt, numberAt}
+use Rattle.sheet_lines.specs.Lines.{endAt, ended, lineAt, spacedAt}
+use Rattle.sheet.specs.Sections.{linesAt, sectionAt, isNew, moduleLine, slotLine}
+use Rattle.sheet.specs.Marks.{markOffence, fieldsAt, markLine}
 use Rattle.sheet.specs.Sheets.{noModules, noMarks, noSlots, sheetIn, told, toldOf}
 use Rattle.sheet.specs.declared.Reading.{Reading}
 use Rattle.demand2.specs.EmptyReader.{Reader, Keeps, RefusesAll, Constant}

@@ -11,10 +11,11 @@ use Rattle.limits.specs.Limits.{seatsLeast, seatsMost, marksMost, slotsMost, mo
 use Rattle.limits.specs.Refusals.{numberOf}
 use Rattle.limits.specs.declared.Refusal.{Refusal}
 use Rattle.limits.specs.declared.Refusal.the-variants.{EndsEarly, WrongByte, OutsideLimits, ModuleTwice, MarkNotAbove, WrongMark, BytesAfter}
-use Rattle.sheet.specs.Found.{Found, found, offence, onFound, andThen}
-use Rattle.sheet.specs.Bytes.{isDigit, isSpace, isLineFeed, isKind, isHeard, byteAt, digitsAt, numberAt}
-use Rattle.sheet.specs.Lines.{endAt, ended, within, lineAt, linesAt, section, sectionAt, isNew, moduleLine, slotLine}
-use Rattle.sheet.specs.Marks.{mark, noMark, markWithin, ascends, allowed, markOffence, onOption, spacedAt, fieldsAt, markLine}
+use Rattle.sheet_lines.specs.Found.{Found, found, offence, onFound, andThen}
+use Rattle.sheet_lines.specs.Bytes.{isDigit, isSpace, isLineFeed, isKind, isHeard, byteAt, digitsAt, numberAt}
+use Rattle.sheet_lines.specs.Lines.{endAt, ended, within, lineAt, spacedAt}
+use Rattle.sheet.specs.Sections.{linesAt, section, sectionAt, isNew, moduleLine, slotLine}
+use Rattle.sheet.specs.Marks.{mark, noMark, markWithin, ascends, allowed, markOffence, onOption, fieldsAt, markLine}
 use Rattle.sheet.specs.Sheets.{noModules, noMarks, noSlots, sheetFrom, sheetIn}
 use Rattle.sheet.specs.declared.Mark.{Mark}
 

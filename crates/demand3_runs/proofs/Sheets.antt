@@ -7,11 +7,11 @@ use Rattle.lists.specs.Counted.{tab}
 use Rattle.lists.proofs.Counted.{tab-split}
 use Rattle.ring.specs.Refusals.{verdictFound, within}
 use Rattle.steps.specs.Run.{Marks, freshBench, runOn}
-use Rattle.sheet.specs.Found.{Found, found, offence}
+use Rattle.sheet_lines.specs.Found.{Found, found, offence}
 use Rattle.sheet.specs.Good.{GoodSheet}
 use Rattle.sheet.specs.Sheets.{sheetIn}
 use Rattle.sheet.specs.declared.Sheet.{Sheet}
-use Rattle.sheet.proofs.FitLaws.{read-good}
+use Rattle.sheet_laws.proofs.Good.{read-good}
 use Rattle.run.specs.Marks.{marksAt}
 use Rattle.run.specs.Outcome.{Heard, Outcome, ran, Result}
 use Rattle.run.specs.Run.{runOf, runSheet}

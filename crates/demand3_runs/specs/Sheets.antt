@@ -6,7 +6,7 @@ use Rattle.limits.specs.Refusals.{done}
 use Rattle.lists.specs.Counted.{tab}
 use Rattle.ring.specs.Refusals.{within}
 use Rattle.steps.specs.Run.{Bench, toldOn, freshBench, runOn}
-use Rattle.sheet.specs.Found.{found}
+use Rattle.sheet_lines.specs.Found.{found}
 use Rattle.sheet.specs.Sheets.{sheetIn}
 use Rattle.sheet.specs.declared.Sheet.{Sheet}
 use Rattle.run.specs.Marks.{marksAt}

@@ -1,8 +1,5 @@
 -- The files of laws that the proofs of `page` cite, and the theorems on every page.
 pub mod Decimals
-pub mod Example
 pub mod LineLaws
 pub mod PageLaws
-pub mod Printed
-pub mod Unique
 pub mod Writing

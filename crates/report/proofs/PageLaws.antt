@@ -1,12 +1,15 @@
--- The page by the answer of a run, and what `page` promises from what is written. Assumes nothing.
+-- The page by the answer of a run, what `page` promises from what is written, and what callers need of it. Assumes nothing.
 use mathlib.Core.Path.{_≡_, sym, ap, _∙_}
 use mathlib.Core.Bool.{true, false}
-use mathlib.Core.List.{List, [], _++_}
-use Prim.Native.Nat.{ℕ}
+use mathlib.Core.List.{List, [], _++_, append-assoc}
+use mathlib.Core.Logic.{⊎-elim}
+use Prim.Native.Nat.{ℕ, _≤_}
+use native.Mathlib.Omega.{arith}
 use lib.Dec.{leb}
 use lib.ListN.{length}
 use lib.Seq.{take-all}
 use borrow.Author.Tests.{leb-true}
+use Rattle.lists.proofs.Tests.{both}
 use Rattle.limits.specs.Refusals.{numberOf}
 use Rattle.limits.specs.declared.Refusal.{Refusal}
 use Rattle.ring.specs.declared.Ring.{Ring}
@@ -18,9 +21,9 @@ use Rattle.run.specs.declared.Bus.{Bus}
 use Rattle.run.specs.declared.Ran.{Ran}
 use Rattle.run.specs.declared.Answer.the-variants as answers
 use Rattle.run.proofs.Fits.{run-fits}
-use Rattle.report.specs.Page.{busLine, withinLine, outsideLine, refusedLine, recordsAndSeats, verdict, pageOf}
+use Rattle.report.specs.Page.{busLine, withinLine, outsideLine, refusedLine, pageOf}
 use Rattle.report.specs.Promise.{noTrail, textOf, pageMost, PagePromise}
-use Rattle.report.specs.Inside.{Written, Writes, Holds, resultOf}
+use Rattle.report.specs.Inside.{Written, Writes, Holds, resultOf, upToFaults}
 use Rattle.report.specs.declared.text.Place.{Place}
 use Rattle.report.proofs.Writing.{nothing, same}
 
@@ -36,13 +39,13 @@ module _ (r : Ran) (t : List ℕ) where
     unfolding pageOf
     page-unfit f = rw (e, f)
 
-    pub page-within : v ≡ verdicts.Within → recordsAndSeats (resultOf r t) ++ verdict (busLine (heard bus)) withinLine ≡ pageOf (resultOf r t)
+    pub page-within : v ≡ verdicts.Within → upToFaults (resultOf r t) (busLine (heard bus)) ++ withinLine ≡ pageOf (resultOf r t)
     unfolding pageOf
-    page-within f = rw (e, f)
+    page-within f = rw (e, f) (simp append-assoc)
 
-    pub page-outside : {time : ℕ} → v ≡ verdicts.Outside time → recordsAndSeats (resultOf r t) ++ verdict (busLine (heard bus)) (outsideLine time) ≡ pageOf (resultOf r t)
+    pub page-outside : {time : ℕ} → v ≡ verdicts.Outside time → upToFaults (resultOf r t) (busLine (heard bus)) ++ outsideLine time ≡ pageOf (resultOf r t)
     unfolding pageOf
-    page-outside f = rw (e, f)
+    page-outside f = rw (e, f) (simp append-assoc)
 
 -- ---- what the run gives back
 
@@ -82,3 +85,13 @@ module _ (sheet : List ℕ) {page text page′ : List ℕ} {end : Place} (e : te
   page-cut h =
       let l : leb (length (textOf sheet)) (length page) ≡ false = sym (all .whole) ∙ h in
       record { bytes = all .bytes; result = sym (rw l); short = w .short }
+
+-- ---- for callers
+
+-- what is given back never reaches past the buffer
+pub within-buffer : (sheet page : List ℕ) (r : ℕ) (page′ : List ℕ) → PagePromise sheet page r page′ → r ≤ length page
+within-buffer sheet page r page′ a =
+    ⊎-elim
+    (λ e. let z : r ≡ length (textOf sheet) = a .result ∙ rw e in omega (arith, leb-true (length (textOf sheet)) (length page) e))
+    (λ e. let z : r ≡ 0 = a .result ∙ rw e in omega arith)
+    (both (leb (length (textOf sheet)) (length page)))

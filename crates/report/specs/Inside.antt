@@ -1,17 +1,20 @@
 -- What the functions that write the page promise each other: a text goes after what is written already.
-use mathlib.Core.List.{List, _++_}
+use mathlib.Core.List.{List, [], _∷_, _++_}
 use mathlib.Core.Path.{_≡_}
-use Prim.Native.Nat.{ℕ, _*_, _≤_}
+use Prim.Native.Nat.{ℕ, _+_, _*_, _≤_}
 use lib.Dec.{leb}
 use lib.ListN.{length, take}
 use Rattle.lists.specs.Put.{put}
+use Rattle.limits.specs.Limits.{seatsMost, roomMost}
 use Rattle.ring.specs.Trail.{width}
 use Rattle.ring.specs.declared.Ring.{Ring}
 use Rattle.run.specs.Outcome.{Result, said}
 use Rattle.run.specs.declared.Ran.{Ran}
+use Rattle.report.specs.Decimal.{decimal}
+use Rattle.report.specs.Page.{lineOf, recordsAndSeats}
 use Rattle.report.specs.declared.text.Place.{Place}
 
--- the most bytes in the line of a count, of a record and of a seat: no number in them has more than five digits
+-- the most bytes in the line of a count, of a record, of a seat and in the two verdict lines: no number in them has more than five digits
 abbrev pub countMost : ℕ
 countMost = 6
 
@@ -20,6 +23,19 @@ recordMost = 20
 
 abbrev pub seatMost : ℕ
 seatMost = 22
+
+abbrev pub busMost : ℕ
+busMost = 18
+
+abbrev pub faultsMost : ℕ
+faultsMost = 21
+
+-- the page up to its last line, and the most bytes in it
+abbrev pub upToFaults : Result → List ℕ → List ℕ
+upToFaults x bus = recordsAndSeats x ++ lineOf (decimal 2 ∷ []) ++ bus
+
+abbrev pub upToFaultsMost : ℕ
+upToFaultsMost = countMost + recordMost * roomMost + (countMost + seatMost * seatsMost) + countMost + busMost
 
 -- the buffer that came as `start` holds as much of the text as it can
 pub record Written (start text : List ℕ) (place : Place) (page : List ℕ) : Type 0 where

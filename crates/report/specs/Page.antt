@@ -9,21 +9,16 @@ use Rattle.ring.specs.Ring.{seatOf, out}
 use Rattle.ring.specs.Trail.{width}
 use Rattle.ring.specs.Refusals.{within, outside, unfit}
 use Rattle.ring.specs.declared.Ring.{Ring}
+use Rattle.sheet_lines.specs.Bytes.{space, lineFeed}
 use Rattle.run.specs.Outcome.{Heard, agrees, differs, Outcome, ran, refused, Result}
 use Rattle.report.specs.Decimal.{decimal}
 
 -- ---- lines
 
-abbrev pub space : ℕ
-space = 32
-
-abbrev pub feed : ℕ
-feed = 10
-
 -- words parted by one space, ended by one line feed
 abbrev pub lineOf : List (List ℕ) → List ℕ
-lineOf [] = feed ∷ []
-lineOf (last ∷ []) = last ++ (feed ∷ [])
+lineOf [] = lineFeed ∷ []
+lineOf (last ∷ []) = last ++ (lineFeed ∷ [])
 lineOf (word ∷ next ∷ more) = word ++ (space ∷ []) ++ lineOf (next ∷ more)
 
 -- the lines 0 to k - 1 after their count

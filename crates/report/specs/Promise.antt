@@ -2,16 +2,22 @@
 use mathlib.Core.Bool.{cond}
 use mathlib.Core.List.{List}
 use mathlib.Core.Path.{_≡_}
-use Prim.Native.Nat.{ℕ, _≤_}
+use Prim.Native.Nat.{ℕ, _*_, _≤_}
 use lib.Dec.{leb}
 use lib.ListN.{length, take, replicate}
 use Rattle.lists.specs.Put.{put}
+use Rattle.limits.specs.Limits.{roomMost}
+use Rattle.ring.specs.Trail.{width}
 use Rattle.run.specs.Run.{runOf}
 use Rattle.report.specs.Page.{pageOf}
 
--- the program's trail of 5,120 bytes, nothing written yet
+-- the program lends a trail of 5,120 bytes: all the room that a trail can have
+abbrev pub trailLent : ℕ
+trailLent = width * roomMost
+
+-- nothing written yet
 unfoldable pub noTrail : List ℕ
-noTrail = replicate 5120 0
+noTrail = replicate trailLent 0
 
 -- the page of a sheet
 unfoldable pub textOf : List ℕ → List ℕ

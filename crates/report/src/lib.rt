@@ -10,11 +10,13 @@ mod text; // text.rt: bytes, words and numbers in a lent buffer
 // No page is longer than so many bytes.
 pub const PAGE_MOST: usize = 21504;
 
-// A trail of 5,120 bytes has room for all the records of a run.
-fn no_trail() -> [u8; 5120]
+// The trail that is lent to the run: all the room that a trail can have.
+const TRAIL_LENT: usize = lines::WIDTH * limits::ROOM_MOST;
+
+fn no_trail() -> [u8; TRAIL_LENT]
     ensures { λ r. ⌜ r ≡ noTrail ⌝ }
 {
-    [0u8; 5120]
+    [0u8; TRAIL_LENT]
 }
 
 // Run a sheet and print it into the buffer: the page's length, or 0 where the buffer is too short for it.

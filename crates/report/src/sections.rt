@@ -1,13 +1,10 @@
 // The page's sections, each after its count, and the page made of them.
-ghost use mathlib.Core.List.{[], _∷_, _++_};
 ghost use Prim.Native.Nat.{_+_, _*_, _≤_};
 ghost use lib.ListN.{length};
-ghost use Rattle.limits.specs.Limits.{seatsMost, roomMost};
 ghost use Rattle.ring.specs.Trail.{width};
-ghost use Rattle.report.specs.Decimal.{decimal};
-ghost use Rattle.report.specs.Page.{lineOf, recordLine, seatLine, section, busLine, recordsAndSeats, pageOf};
+ghost use Rattle.report.specs.Page.{recordLine, seatLine, section, busLine, pageOf};
 ghost use Rattle.report.specs.Promise.{pageMost};
-ghost use Rattle.report.specs.Inside.{countMost, recordMost, seatMost, Writes, Holds, resultOf};
+ghost use Rattle.report.specs.Inside.{countMost, recordMost, seatMost, upToFaults, upToFaultsMost, Writes, Holds, resultOf};
 ghost use Rattle.run.specs.Outcome.{heard};
 use crate::lines;
 use crate::text::Place;
@@ -58,23 +55,17 @@ fn seat_section(
     next
 }
 
-// The first two sections.
-fn records_and_seats(page: &mut [u8], place: Place, ran: Ran, trail: &[u8]) -> Place
+// The first two sections, and of the verdict its count and its first line.
+fn up_to_faults(page: &mut [u8], place: Place, ran: Ran, trail: &[u8], bus: Bus) -> Place
     requires { ⌜ Holds (ran .ring) (now trail) ⌝ }
-    ensures { λ r. ⌜ Writes (recordsAndSeats (resultOf ran (now (trail .entry)))) (countMost + recordMost * roomMost + (countMost + seatMost * seatsMost)) place (now (page .entry)) r (now (page .exit)) ⌝ }
+    ensures { λ r. ⌜ Writes (upToFaults (resultOf ran (now (trail .entry))) (busLine (heard bus))) upToFaultsMost place (now (page .entry)) r (now (page .exit)) ⌝ }
 {
     let modules = ran.modules;
     let ring = ran.ring;
-    let next = record_section(page, place, modules, trail, ring.records);
-    seat_section(page, next, modules, ring)
-}
-
-// The verdict's count and its first line.
-fn verdict_begins(page: &mut [u8], place: Place, bus: Bus) -> Place
-    ensures { λ r. ⌜ Writes (lineOf (decimal 2 ∷ []) ++ busLine (heard bus)) 24 place (now (page .entry)) r (now (page .exit)) ⌝ }
-{
-    let next = lines::count_line(page, place, 2);
-    lines::bus_line(page, next, bus)
+    let a = record_section(page, place, modules, trail, ring.records);
+    let b = seat_section(page, a, modules, ring);
+    let c = lines::count_line(page, b, 2);
+    lines::bus_line(page, c, bus)
 }
 
 // The whole page of a run. A verdict that is refused, which no run gives, prints as a refusal does.
@@ -93,14 +84,12 @@ pub fn whole_page(page: &mut [u8], place: Place, ran: Ran, trail: &[u8]) -> Plac
                 offence as usize,
             ),
             Verdict::Within => {
-                let a = records_and_seats(page, place, ran, trail);
-                let b = verdict_begins(page, a, bus);
-                lines::within_line(page, b)
+                let next = up_to_faults(page, place, ran, trail, bus);
+                lines::within_line(page, next)
             }
             Verdict::Outside(t) => {
-                let a = records_and_seats(page, place, ran, trail);
-                let b = verdict_begins(page, a, bus);
-                lines::outside_line(page, b, t)
+                let next = up_to_faults(page, place, ran, trail, bus);
+                lines::outside_line(page, next, t)
             }
         },
     }

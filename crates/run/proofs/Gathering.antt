@@ -17,7 +17,7 @@ use Rattle.seats.specs.Sets.{hasSeat}
 use Rattle.seats.specs.Joined.{added, seatsWith}
 use Rattle.seats.proofs.Sets.{nobody-in, same-sets, without-le, without-has}
 use Rattle.seats.proofs.Joined.{has-or, has-added, added-below, with-below, has-with}
-use Rattle.sheet.specs.Bytes.{send, receive, dark}
+use Rattle.sheet_lines.specs.Bytes.{send, receive, dark}
 use Rattle.sheet.specs.Marks.{above}
 use Rattle.sheet.specs.Good.{markOf, GoodSheet}
 use Rattle.sheet.specs.declared.Mark.{Mark}

@@ -8,13 +8,13 @@ use Rattle.limits.specs.declared.Refusal.{Refusal}
 use Rattle.ring.specs.Ring.{zeroRing}
 use Rattle.ring.specs.declared.Ring.{Ring}
 use Rattle.steps.proofs.Taken.{not-done}
-use Rattle.sheet.specs.Found.{Found, found, offence}
+use Rattle.sheet_lines.specs.Found.{Found, found, offence}
 use Rattle.sheet.specs.Good.{GoodSheet}
 use Rattle.sheet.specs.Sheets.{noSheet, sheetIn, told, toldOf, sheetOf, ReadPromise}
 use Rattle.sheet.specs.declared.Sheet.{Sheet}
 use Rattle.sheet.specs.declared.Reading.{Reading}
 use Rattle.sheet.specs.declared.Answer.the-variants.{Read, Refused}
-use Rattle.sheet.proofs.FitLaws.{read-good}
+use Rattle.sheet_laws.proofs.Good.{read-good}
 use Rattle.run.specs.Outcome.{refused, Result}
 use Rattle.run.specs.Run.{ends, runSheet, runOf, RunPromise}
 use Rattle.run.specs.Inside.{Ended, Leaves}

@@ -17,7 +17,7 @@ use Rattle.ring.specs.declared.Stepped.{Stepped}
 use Rattle.steps.specs.Run.{Marks, Bench, toldOn, stepOn, freshBench}
 use Rattle.steps.proofs.Seen.{speaks-is}
 use Rattle.steps.proofs.Reached.{fresh-n, fresh-time, step-after, step-refused, step-length}
-use Rattle.sheet.specs.Bytes.{heardOne, heardZero, heardSilence}
+use Rattle.sheet_lines.specs.Bytes.{heardOne, heardZero, heardSilence}
 use Rattle.sheet.specs.Good as sheets
 use Rattle.sheet.specs.Good.{GoodSheet}
 use Rattle.sheet.specs.declared.Sheet.{Sheet}

@@ -8,7 +8,7 @@ use lib.Dec.{eqb}
 use Rattle.seats.specs.Sets.{hasSeat, withoutSeat}
 use Rattle.seats.specs.Joined.{added}
 use Rattle.ring.specs.declared.Ring.{Ring}
-use Rattle.sheet.specs.Bytes.{send, receive, dark, heardOne, heardZero, heardSilence}
+use Rattle.sheet_lines.specs.Bytes.{send, receive, dark, heardOne, heardZero, heardSilence}
 use Rattle.sheet.specs.declared.Mark.{Mark}
 use Rattle.run.specs.Outcome.{Outcome, said, Result}
 use Rattle.run.specs.declared.Ran.{Ran}

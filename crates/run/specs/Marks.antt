@@ -5,7 +5,7 @@ use lib.Dec.{leb, eqb}
 use Rattle.lists.specs.Counted.{anyBelow}
 use Rattle.seats.specs.Joined.{seatsWith}
 use Rattle.steps.specs.Run.{Marks}
-use Rattle.sheet.specs.Bytes.{send, receive, dark}
+use Rattle.sheet_lines.specs.Bytes.{send, receive, dark}
 use Rattle.sheet.specs.Good.{markOf}
 use Rattle.sheet.specs.declared.Mark.{Mark}
 use Rattle.sheet.specs.declared.Sheet.{Sheet}

@@ -11,8 +11,8 @@ use Rattle.ring.specs.Step.{slotOf}
 use Rattle.ring.specs.Refusals.{verdictFound}
 use Rattle.ring.specs.declared.slot.Slot.{Slot}
 use Rattle.steps.specs.Run.{Marks, Bench, toldOn, stepOn, freshBench}
-use Rattle.sheet.specs.Found.{onFound}
-use Rattle.sheet.specs.Bytes.{heardOne, heardZero, heardSilence}
+use Rattle.sheet_lines.specs.Found.{onFound}
+use Rattle.sheet_lines.specs.Bytes.{heardOne, heardZero, heardSilence}
 use Rattle.sheet.specs.Good as sheets
 use Rattle.sheet.specs.Sheets.{noSheet, sheetIn}
 use Rattle.sheet.specs.declared.Sheet.{Sheet}

@@ -4,7 +4,7 @@ use mathlib.Core.Path.{_≡_}
 use mathlib.Core.Bool.{true}
 use lib.ListN.{getD}
 use Rattle.limits.specs.Limits.{seatsLeast, seatsMost, marksMost, slotsMost, moduleMost}
-use Rattle.sheet.specs.Bytes.{isKind, isHeard}
+use Rattle.sheet_lines.specs.Bytes.{isKind, isHeard}
 use Rattle.sheet.specs.Marks.{noMark, above, allowed}
 use Rattle.sheet.specs.declared.Mark.{Mark}
 use Rattle.sheet.specs.declared.Sheet.{Sheet}

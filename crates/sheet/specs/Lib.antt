@@ -1,7 +1,5 @@
 -- The files of definitions of run sheets, each resting on those above it: `Sheets` has what `read` promises.
-pub mod Found
-pub mod Bytes
-pub mod Lines
+pub mod Sections
 pub mod Marks
 pub mod Sheets
 pub mod Good

@@ -8,9 +8,9 @@ use lib.Dec.{ltb, eqb}
 use Rattle.limits.specs.Limits.{slotsMost}
 use Rattle.limits.specs.declared.Refusal.{Refusal}
 use Rattle.limits.specs.declared.Refusal.the-variants.{OutsideLimits, MarkNotAbove, WrongMark}
-use Rattle.sheet.specs.Found.{Found, found, offence, andThen}
-use Rattle.sheet.specs.Bytes.{send, receive, isSpace, isKind, byteAt, numberAt}
-use Rattle.sheet.specs.Lines.{ended}
+use Rattle.sheet_lines.specs.Found.{Found, found, offence, andThen}
+use Rattle.sheet_lines.specs.Bytes.{send, receive, isKind}
+use Rattle.sheet_lines.specs.Lines.{spacedAt, loneAt}
 use Rattle.sheet.specs.declared.Mark.{Mark}
 
 abbrev pub mark : ℕ → ℕ → ℕ → Mark
@@ -50,16 +50,12 @@ abbrev pub onOption : {A B : Type 0} → Option A → B → (A → B) → B
 onOption none nothing one = nothing
 onOption (some a) nothing one = one a
 
--- a number and one space
-unfoldable pub spacedAt : List ℕ → ℕ → Found ℕ
-spacedAt sheet at = andThen (numberAt sheet at) (λ value at. andThen (byteAt isSpace sheet at) (λ space next. found value next))
-
 -- `time seat kind`, to the line's end
 unfoldable pub fieldsAt : List ℕ → ℕ → Found Mark
 fieldsAt sheet at =
     andThen (spacedAt sheet at)
     (λ time at. andThen (spacedAt sheet at)
-    (λ seat at. andThen (ended sheet (byteAt isKind sheet at))
+    (λ seat at. andThen (loneAt isKind sheet at)
     (λ kind next. found (mark time seat kind) next)))
 
 -- line k of a ring of n seats; 3, 5 and 6 stand at the line's first byte

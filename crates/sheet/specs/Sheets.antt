@@ -8,8 +8,8 @@ use lib.Dec.{ltb}
 use Rattle.limits.specs.Limits.{seatsLeast, seatsMost, marksMost, slotsMost}
 use Rattle.limits.specs.Refusals.{numberOf, Told, done, refused}
 use Rattle.limits.specs.declared.Refusal.the-variants.{BytesAfter}
-use Rattle.sheet.specs.Found.{Found, found, offence, andThen}
-use Rattle.sheet.specs.Lines.{Section, section, sectionAt, moduleLine, slotLine}
+use Rattle.sheet_lines.specs.Found.{Found, found, offence, andThen}
+use Rattle.sheet.specs.Sections.{Section, section, sectionAt, moduleLine, slotLine}
 use Rattle.sheet.specs.Marks.{noMark, markLine}
 use Rattle.sheet.specs.declared.Mark.{Mark}
 use Rattle.sheet.specs.declared.Sheet.{Sheet}

@@ -2,28 +2,25 @@
 ghost use mathlib.Core.Path.{_≡_};
 ghost use Rattle.sheet.specs.Sheets.{noSheet, ReadPromise};
 ghost use Rattle.sheet.specs.Inside.{refusedWith, wholeOf};
-use bytes::Piece;
 use limits::Refusal;
+use sheet_lines::Piece;
 
-mod bytes; // bytes.rt: what a byte is, and which may stand at a place
-mod numbers; // numbers.rt: numbers
-mod lines; // lines.rt: line ends, and lines that hold one number
 mod modules; // modules.rt: the first section
 mod marks; // marks.rt: the second section
 mod slots; // slots.rt: the third section
 
 // The kinds of marks.
-pub const SEND: u8 = b'S';
+pub const SEND: u8 = sheet_lines::SEND;
 
-pub const RECEIVE: u8 = b'R';
+pub const RECEIVE: u8 = sheet_lines::RECEIVE;
 
-pub const DARK: u8 = b'D';
+pub const DARK: u8 = sheet_lines::DARK;
 // What the bus recorder heard.
-pub const HEARD_ONE: u8 = b'1';
+pub const HEARD_ONE: u8 = sheet_lines::HEARD_ONE;
 
-pub const HEARD_ZERO: u8 = b'0';
+pub const HEARD_ZERO: u8 = sheet_lines::HEARD_ZERO;
 
-pub const HEARD_SILENCE: u8 = b'-';
+pub const HEARD_SILENCE: u8 = sheet_lines::HEARD_SILENCE;
 
 // A mark of a seat at a time, of one of the kinds.
 pub struct Mark {

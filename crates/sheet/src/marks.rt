@@ -2,17 +2,14 @@
 ghost use mathlib.Core.Path.{_≡_};
 ghost use Prim.Native.Nat.{_≤_, _<_};
 ghost use Rattle.limits.specs.Limits.{seatsMost, marksMost};
-ghost use Rattle.sheet.specs.Lines.{entriesAt, sectionAt};
-ghost use Rattle.sheet.specs.Marks.{mark, noMark, ascends, allowed, markOffence, spacedAt, fieldsAt, markLine};
+ghost use Rattle.sheet.specs.Sections.{entriesAt, sectionAt};
+ghost use Rattle.sheet.specs.Marks.{mark, noMark, ascends, allowed, markOffence, fieldsAt, markLine};
 ghost use Rattle.sheet.specs.Sheets.{noMarks};
-ghost use Rattle.sheet.specs.Inside.{foundOf, sectionOf, fieldsOf, offenceOf};
+ghost use Rattle.sheet.specs.Inside.{sectionOf, fieldsOf, offenceOf};
 use crate::Mark;
-use crate::bytes;
-use crate::bytes::Piece;
-use crate::bytes::Want;
-use crate::lines;
-use crate::numbers;
 use limits::Refusal;
+use sheet_lines::Piece;
+use sheet_lines::Want;
 
 // A mark line's fields and the place after them, or the offence.
 enum Line {
@@ -31,30 +28,15 @@ pub struct Marks {
     pub end: Piece,
 }
 
-// A number and one space.
-fn spaced(s: &[u8], at: usize) -> Piece
-    ensures { λ r. ⌜ foundOf r ≡ spacedAt (now (s .entry)) at ⌝ }
-{
-    let one = numbers::number(s, at);
-    let Piece::Found(value, end) = one else {
-        return one;
-    };
-    let space = bytes::byte(s, end, Want::Space);
-    let Piece::Found(_, next) = space else {
-        return space;
-    };
-    Piece::Found(value, next)
-}
-
 // `time seat kind`, to the line's end.
 fn fields(s: &[u8], at: usize) -> Line
     ensures { λ r. ⌜ fieldsOf r ≡ fieldsAt (now (s .entry)) at ⌝ }
 {
-    match spaced(s, at) {
+    match sheet_lines::spaced(s, at) {
         Piece::Offence(why, place) => Line::Offence(why, place),
-        Piece::Found(time, a) => match spaced(s, a) {
+        Piece::Found(time, a) => match sheet_lines::spaced(s, a) {
             Piece::Offence(why, place) => Line::Offence(why, place),
-            Piece::Found(seat, b) => match lines::to_end(s, bytes::byte(s, b, Want::Kind)) {
+            Piece::Found(seat, b) => match sheet_lines::lone(s, b, Want::Kind) {
                 Piece::Offence(why, place) => Line::Offence(why, place),
                 Piece::Found(kind, next) => Line::Fields(time, seat, kind as u8, next),
             },
@@ -177,7 +159,7 @@ pub fn mark_section(s: &[u8], at: usize, n: usize) -> Marks
     requires { ⌜ (0 < n) × (n ≤ seatsMost) ⌝ }
     ensures { λ r. ⌜ sectionOf (r .list) (r .end) ≡ sectionAt 0 marksMost (markLine n (now (s .entry))) noMarks (now (s .entry)) at ⌝ }
 {
-    let count = lines::line(s, at, 0, limits::MARKS_MOST);
+    let count = sheet_lines::line(s, at, 0, limits::MARKS_MOST);
     let Piece::Found(m, next) = count else {
         return Marks {
             list: no_marks(),

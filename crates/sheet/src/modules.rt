@@ -2,12 +2,11 @@
 ghost use mathlib.Core.Path.{_≡_};
 ghost use Prim.Native.Nat.{_≤_};
 ghost use Rattle.limits.specs.Limits.{seatsLeast, seatsMost};
-ghost use Rattle.sheet.specs.Lines.{entriesAt, sectionAt, moduleLine};
+ghost use Rattle.sheet.specs.Sections.{entriesAt, sectionAt, moduleLine};
 ghost use Rattle.sheet.specs.Sheets.{noModules};
 ghost use Rattle.sheet.specs.Inside.{sectionOf};
-use crate::bytes::Piece;
-use crate::lines;
 use limits::Refusal;
+use sheet_lines::Piece;
 
 // Module numbers; and how many there are with the place after them, or the offence.
 pub struct Modules {
@@ -30,7 +29,7 @@ fn module_lines(s: &[u8], start: usize, count: usize) -> Modules
     let mut at = start;
     let mut k: usize = 0;
     'lines: while k < count {
-        let one = lines::line(s, at, 1, limits::MODULE_MOST as usize);
+        let one = sheet_lines::line(s, at, 1, limits::MODULE_MOST as usize);
         let Piece::Found(value, next) = one else {
             return Modules { list, end: one };
         };
@@ -61,7 +60,7 @@ fn module_lines(s: &[u8], start: usize, count: usize) -> Modules
 pub fn ring_section(s: &[u8]) -> Modules
     ensures { λ r. ⌜ sectionOf (r .list) (r .end) ≡ sectionAt seatsLeast seatsMost (moduleLine (now (s .entry))) noModules (now (s .entry)) 0 ⌝ }
 {
-    let count = lines::line(s, 0, limits::SEATS_LEAST, limits::SEATS_MOST);
+    let count = sheet_lines::line(s, 0, limits::SEATS_LEAST, limits::SEATS_MOST);
     let Piece::Found(n, next) = count else {
         return Modules {
             list: no_modules(),

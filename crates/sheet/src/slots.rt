@@ -2,13 +2,11 @@
 ghost use mathlib.Core.Path.{_≡_};
 ghost use Prim.Native.Nat.{_≤_};
 ghost use Rattle.limits.specs.Limits.{slotsMost};
-ghost use Rattle.sheet.specs.Lines.{entriesAt, sectionAt, slotLine};
+ghost use Rattle.sheet.specs.Sections.{entriesAt, sectionAt, slotLine};
 ghost use Rattle.sheet.specs.Sheets.{noSlots};
 ghost use Rattle.sheet.specs.Inside.{sectionOf};
-use crate::bytes;
-use crate::bytes::Piece;
-use crate::bytes::Want;
-use crate::lines;
+use sheet_lines::Piece;
+use sheet_lines::Want;
 
 pub struct Slots {
     pub list: [u8; limits::SLOTS_MOST as usize],
@@ -30,7 +28,7 @@ fn slot_lines(s: &[u8], start: usize, count: usize) -> Slots
     let mut at = start;
     let mut k: usize = 0;
     while k < count {
-        let one = lines::to_end(s, bytes::byte(s, at, Want::Heard));
+        let one = sheet_lines::lone(s, at, Want::Heard);
         let Piece::Found(heard, next) = one else {
             return Slots { list, end: one };
         };
@@ -47,7 +45,7 @@ fn slot_lines(s: &[u8], start: usize, count: usize) -> Slots
 pub fn slot_section(s: &[u8], at: usize) -> Slots
     ensures { λ r. ⌜ sectionOf (r .list) (r .end) ≡ sectionAt 0 slotsMost (slotLine (now (s .entry))) noSlots (now (s .entry)) at ⌝ }
 {
-    let count = lines::line(s, at, 0, limits::SLOTS_MOST as usize);
+    let count = sheet_lines::line(s, at, 0, limits::SLOTS_MOST as usize);
     let Piece::Found(h, next) = count else {
         return Slots {
             list: no_slots(),

@@ -4,31 +4,13 @@ use borrow.Author.Needs.{needs}
 use Rattle.report.proofs.page.Statement.{statement}
 use Rattle.report.proofs.page.Tie as tie
 
-no-trail-requires : tie.Need-no-trail-requires
-no-trail-requires c κs = search needs
-
-slice-aggregate-run : tie.Need-slice-aggregate-run
-slice-aggregate-run c = search needs
-
-run-requires : tie.Need-run-requires
-run-requires c κs = search needs
-
-slice-aggregate-whole-page : tie.Need-slice-aggregate-whole-page
-slice-aggregate-whole-page c = search needs
-
 whole-page-requires : tie.Need-whole-page-requires
 whole-page-requires c κs = run-holds (c .before .before .before .run .ensures)
-
-same-length : tie.Need-same-length
-same-length c = search needs
 
 returns : tie.Need-returns
 returns c = let w = c .before .before .before in
     let r = w .before .before .before .before in
     page-whole (r .before .before .before .before .before .args .sheet .now) (run-text (r .run .ensures) (r .before .before .no-trail .ensures)) (w .whole-page .ensures) (c .if1 .taken)
-
-same-length-2 : tie.Need-same-length-2
-same-length-2 c = search needs
 
 returns-2 : tie.Need-returns-2
 returns-2 c = let w = c .before .before .before in
@@ -39,12 +21,6 @@ pub page-spec : {M : Type 1} → statement M
 page-spec =
     tie.close
     (tie.spec
-    no-trail-requires
-    slice-aggregate-run
-    run-requires
-    slice-aggregate-whole-page
-    whole-page-requires
-    same-length
-    returns
-    same-length-2
-    returns-2)
+    (λ c κs. search needs) (λ c. search needs) (λ c κs. search needs) (λ c. search needs) whole-page-requires
+    (λ c. search needs) returns
+    (λ c. search needs) returns-2)

@@ -3,25 +3,13 @@ use borrow.Author.Needs.{needs}
 use mathlib.Core.Path.{sym, ap, _∙_}
 use native.Mathlib.Omega.{arith}
 use Rattle.limits.specs.Limits.{seatsLeast, seatsMost}
-use Rattle.sheet.specs.Lines.{section}
+use Rattle.sheet.specs.Sections.{section}
 use Rattle.sheet.specs.Sheets.{sheetFrom, sheetIn}
 use Rattle.sheet.specs.Inside.{sectionOf}
-use Rattle.sheet.proofs.LineLaws.{section-found}
+use Rattle.sheet.proofs.SectionLaws.{section-found}
 use Rattle.sheet.proofs.SheetLaws.{kept-refused, kept-whole}
 use Rattle.sheet.proofs.read.Statement.{statement}
 use Rattle.sheet.proofs.read.Tie as tie
-
-ring-section-requires : tie.Need-ring-section-requires
-ring-section-requires c κs = search needs
-
-enum-known-ring-end : tie.Need-enum-known-ring-end
-enum-known-ring-end c = search needs
-
-refused-requires : tie.Need-refused-requires
-refused-requires c κs = search needs
-
-enum-known-ring-end-2 : tie.Need-enum-known-ring-end-2
-enum-known-ring-end-2 c = search needs
 
 mark-section-requires : tie.Need-mark-section-requires
 mark-section-requires c κs =
@@ -29,70 +17,49 @@ mark-section-requires c κs =
     let g = section-found seatsLeast seatsMost _ _ _ _ _ _ (sym (ring .ensures) ∙ ap (sectionOf (ring .result .list)) (c .before .ring-end2 .given .1)) in
     (omega arith, g .high)
 
-enum-known-marks-end : tie.Need-enum-known-marks-end
-enum-known-marks-end c = search needs
-
-refused-requires-2 : tie.Need-refused-requires-2
-refused-requires-2 c κs = search needs
-
-enum-known-marks-end-2 : tie.Need-enum-known-marks-end-2
-enum-known-marks-end-2 c = search needs
-
-slot-section-requires : tie.Need-slot-section-requires
-slot-section-requires c κs = search needs
-
-enum-known-slots-end : tie.Need-enum-known-slots-end
-enum-known-slots-end c = search needs
-
-refused-requires-3 : tie.Need-refused-requires-3
-refused-requires-3 c κs = search needs
-
-enum-known-slots-end-2 : tie.Need-enum-known-slots-end-2
-enum-known-slots-end-2 c = search needs
-
-whole-requires : tie.Need-whole-requires
-whole-requires c κs = search needs
-
 returns : tie.Need-returns
 unfolding sheetIn
 returns c = kept-refused _ (c .refused .ensures) (rw (← c .before .before .before .before .ring-section .ensures, c .before .before .ring-end .given .1))
 
 returns-2 : tie.Need-returns-2
 unfolding sheetIn
-returns-2 c = kept-refused _ (c .refused2 .ensures) (rw (← c .before .before .before .before .before .before .before .before .ring-section .ensures, c .before .before .before .before .before .before .ring-end2 .given .1, ← c .before .before .before .before .mark-section .ensures, c .before .before .marks-end .given .1))
+returns-2 c =
+    let marks = c .before .before .before .before in
+    let ring = marks .before .before .before .before in
+    kept-refused _ (c .refused2 .ensures)
+    (rw (← ring .ring-section .ensures, marks .before .before .ring-end2 .given .1, ← marks .mark-section .ensures, c .before .before .marks-end .given .1))
 
 returns-3 : tie.Need-returns-3
 unfolding sheetIn
-returns-3 c = kept-refused _ (c .refused3 .ensures) (rw (← c .before .before .before .before .before .before .before .before .before .before .before .before .ring-section .ensures, c .before .before .before .before .before .before .before .before .before .before .ring-end2 .given .1, ← c .before .before .before .before .before .before .before .before .mark-section .ensures, c .before .before .before .before .before .before .marks-end2 .given .1, ← c .before .before .before .before .slot-section .ensures, c .before .before .slots-end .given .1))
+returns-3 c =
+    let slots = c .before .before .before .before in
+    let marks = slots .before .before .before .before in
+    let ring = marks .before .before .before .before in
+    kept-refused _ (c .refused3 .ensures)
+    (rw (← ring .ring-section .ensures, marks .before .before .ring-end2 .given .1, ← marks .mark-section .ensures, slots .before .before .marks-end2 .given .1, ← slots .slot-section .ensures, c .before .before .slots-end .given .1))
 
 returns-4 : tie.Need-returns-4
 unfolding sheetIn
 returns-4 c =
-    let end = c .before .before .before .before .before .slots-end2 .given .0 .1 .0 in
-    let ring = section (c .before .before .before .before .before .before .before .before .before .before .before .before .before .ring-end2 .given .0 .0) (c .before .before .before .before .before .before .before .before .before .before .before .before .before .before .before .ring-section .result .list) in
-    let marks = section (c .before .before .before .before .before .before .before .before .before .marks-end2 .given .0 .0) (c .before .before .before .before .before .before .before .before .before .before .before .mark-section .result .list) in
-    let slots = section (c .before .before .before .before .before .slots-end2 .given .0 .0) (c .before .before .before .before .before .before .before .slot-section .result .list) in
-    kept-whole _ end (sheetFrom ring marks slots) (c .whole .ensures)
-    (rw (← c .before .before .before .before .before .before .before .before .before .before .before .before .before .before .before .ring-section .ensures, c .before .before .before .before .before .before .before .before .before .before .before .before .before .ring-end2 .given .1, ← c .before .before .before .before .before .before .before .before .before .before .before .mark-section .ensures, c .before .before .before .before .before .before .before .before .before .marks-end2 .given .1, ← c .before .before .before .before .before .before .before .slot-section .ensures, c .before .before .before .before .before .slots-end2 .given .1))
+    let last = c .before .before .before .before .before in
+    let slots = last .before .before in
+    let marks = slots .before .before .before .before in
+    let ring = marks .before .before .before .before in
+    kept-whole _ (last .slots-end2 .given .0 .1 .0)
+    (sheetFrom
+    (section (marks .before .before .ring-end2 .given .0 .0) (ring .ring-section .result .list))
+    (section (slots .before .before .marks-end2 .given .0 .0) (marks .mark-section .result .list))
+    (section (last .slots-end2 .given .0 .0) (slots .slot-section .result .list)))
+    (c .whole .ensures)
+    (rw (← ring .ring-section .ensures, marks .before .before .ring-end2 .given .1, ← marks .mark-section .ensures, slots .before .before .marks-end2 .given .1, ← slots .slot-section .ensures, last .slots-end2 .given .1))
 
 pub read-spec : {M : Type 1} → statement M
 read-spec =
     tie.close
     (tie.spec
-    ring-section-requires
-    enum-known-ring-end
-    refused-requires
-    enum-known-ring-end-2
-    mark-section-requires
-    enum-known-marks-end
-    refused-requires-2
-    enum-known-marks-end-2
-    slot-section-requires
-    enum-known-slots-end
-    refused-requires-3
-    enum-known-slots-end-2
-    whole-requires
-    returns
+    (λ c κs. search needs) (λ c. search needs) (λ c κs. search needs) (λ c. search needs) mark-section-requires
+    (λ c. search needs) (λ c κs. search needs) (λ c. search needs) (λ c κs. search needs) (λ c. search needs) (λ c κs. search needs) (λ c. search needs)
+    (λ c κs. search needs) returns
     returns-2
     returns-3
     returns-4)

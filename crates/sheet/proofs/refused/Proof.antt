@@ -3,11 +3,8 @@ use borrow.Author.Needs.{needs}
 use Rattle.sheet.proofs.refused.Statement.{statement}
 use Rattle.sheet.proofs.refused.Tie as tie
 
-no-sheet-requires : tie.Need-no-sheet-requires
-no-sheet-requires c κs = search needs
-
 returns : tie.Need-returns
 returns c = rw (c .no-sheet .ensures)
 
 pub refused-spec : {M : Type 1} → statement M
-refused-spec = tie.close (tie.spec no-sheet-requires returns)
+refused-spec = tie.close (tie.spec (λ c κs. search needs) returns)

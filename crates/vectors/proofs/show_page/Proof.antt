@@ -3,7 +3,7 @@ use borrow.Author.Needs.{needs}
 use mathlib.Core.Path.{sym}
 use native.Mathlib.Omega.{arith}
 use lib.Seq.{length-take-le}
-use Rattle.report.proofs.Unique.{within-buffer}
+use Rattle.report.proofs.PageLaws.{within-buffer}
 use Rattle.vectors.proofs.show_page.Statement.{statement}
 use Rattle.vectors.proofs.show_page.Tie as tie
 

@@ -18,28 +18,13 @@ Inv-loop page₀ modules trail records count next₀ k₀ page next k =
 abbrev μ-loop : tie.MeasureT-loop
 μ-loop page₀ modules trail records count next₀ k₀ page next k = count - k
 
-count-line-requires : tie.Need-count-line-requires Inv-loop μ-loop
-count-line-requires c κs = search needs
-
 loop-holds : tie.Need-loop-holds Inv-loop μ-loop
 loop-holds c = let a = c .before .before .before .before .before .before .args in (search needs, refl, lines-begin (recordLine (a .modules) (a .trail .now)) recordMost)
-
-record-line-requires : tie.Need-record-line-requires Inv-loop μ-loop
-record-line-requires c κs = search needs
-
-add-k : tie.Need-add-k Inv-loop μ-loop
-add-k c = search needs
-
-loop-less : tie.Need-loop-less Inv-loop μ-loop
-loop-less c = search needs
 
 loop-again : tie.Need-loop-again Inv-loop μ-loop
 loop-again c = let l = c .before .before .before .before .before in
     let a = l .before .before .before .before .before .before .before .args in
     (search needs, search needs, lines-more (recordLine (a .modules) (a .trail .now)) recordMost (l .loop .inv .2) (c .before .before .record-line .ensures))
-
-same-length : tie.Need-same-length Inv-loop μ-loop
-same-length c = search needs
 
 returns : tie.Need-returns Inv-loop μ-loop
 returns c = let l = c .before in
@@ -50,13 +35,6 @@ pub record-section-spec : {M : Type 1} → statement M
 record-section-spec =
     tie.close
     (tie.spec
-    Inv-loop
-    μ-loop
-    count-line-requires
-    loop-holds
-    record-line-requires
-    add-k
-    loop-less
-    loop-again
-    same-length
-    returns)
+    Inv-loop μ-loop (λ c κs. search needs) loop-holds
+    (λ c κs. search needs) (λ c. search needs) (λ c. search needs) loop-again
+    (λ c. search needs) returns)

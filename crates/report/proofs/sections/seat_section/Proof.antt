@@ -18,31 +18,13 @@ Inv-loop page₀ modules ring n next₀ p₀ page next p =
 abbrev μ-loop : tie.MeasureT-loop
 μ-loop page₀ modules ring n next₀ p₀ page next p = n - p
 
-cast-count-line : tie.Need-cast-count-line Inv-loop μ-loop
-cast-count-line c = search needs
-
-count-line-requires : tie.Need-count-line-requires Inv-loop μ-loop
-count-line-requires c κs = search needs
-
 loop-holds : tie.Need-loop-holds Inv-loop μ-loop
 loop-holds c = let a = c .before .before .before .before .before .args in (search needs, refl, lines-begin (seatLine (a .modules) (a .ring)) seatMost)
-
-seat-line-requires : tie.Need-seat-line-requires Inv-loop μ-loop
-seat-line-requires c κs = search needs
-
-add-p : tie.Need-add-p Inv-loop μ-loop
-add-p c = search needs
-
-loop-less : tie.Need-loop-less Inv-loop μ-loop
-loop-less c = search needs
 
 loop-again : tie.Need-loop-again Inv-loop μ-loop
 loop-again c = let l = c .before .before .before .before .before in
     let a = l .before .before .before .before .before .before .args in
     (search needs, search needs, lines-more (seatLine (a .modules) (a .ring)) seatMost (l .loop .inv .2) (c .before .before .seat-line .ensures))
-
-same-length : tie.Need-same-length Inv-loop μ-loop
-same-length c = search needs
 
 returns : tie.Need-returns Inv-loop μ-loop
 returns c = let l = c .before in
@@ -53,14 +35,6 @@ pub seat-section-spec : {M : Type 1} → statement M
 seat-section-spec =
     tie.close
     (tie.spec
-    Inv-loop
-    μ-loop
-    cast-count-line
-    count-line-requires
-    loop-holds
-    seat-line-requires
-    add-p
-    loop-less
-    loop-again
-    same-length
-    returns)
+    Inv-loop μ-loop (λ c. search needs) (λ c κs. search needs) loop-holds
+    (λ c κs. search needs) (λ c. search needs) (λ c. search needs) loop-again
+    (λ c. search needs) returns)

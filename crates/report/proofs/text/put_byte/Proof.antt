@@ -5,15 +5,6 @@ use Rattle.report.proofs.Writing.{byte-fits, byte-past}
 use Rattle.report.proofs.text.put_byte.Statement.{statement}
 use Rattle.report.proofs.text.put_byte.Tie as tie
 
-slice-write-page : tie.Need-slice-write-page
-slice-write-page c = search needs
-
-add-t8 : tie.Need-add-t8
-add-t8 c = search needs
-
-same-length : tie.Need-same-length
-same-length c = search needs
-
 returns : tie.Need-returns
 returns c = let a = c .before .args in
     record { more = λ start before w. byte-fits start before (a .place) (a .page .now) w (a .byte) (c .if1 .taken); short = omega arith }
@@ -23,4 +14,4 @@ returns-2 c = let a = c .before .args in
     record { more = λ start before w. byte-past start before (a .place) (a .page .now) w (a .byte) (c .if1 .left); short = omega arith }
 
 pub put-byte-spec : {M : Type 1} → statement M
-put-byte-spec = tie.close (tie.spec slice-write-page add-t8 same-length returns returns-2)
+put-byte-spec = tie.close (tie.spec (λ c. search needs) (λ c. search needs) (λ c. search needs) returns returns-2)

@@ -5,9 +5,6 @@ use Rattle.sheet.specs.Marks.{markOffence}
 use Rattle.sheet.proofs.marks.first_offence.Statement.{statement}
 use Rattle.sheet.proofs.marks.first_offence.Tie as tie
 
-cast-if1 : tie.Need-cast-if1
-cast-if1 c = search needs
-
 returns : tie.Need-returns
 unfolding markOffence
 returns c = rw (le-ltb _ _ (c .if1 .taken))
@@ -15,12 +12,6 @@ returns c = rw (le-ltb _ _ (c .if1 .taken))
 returns-2 : tie.Need-returns-2
 unfolding markOffence
 returns-2 c = rw (lt-ltb _ _ (c .before .if1 .left), le-ltb _ _ (c .if2 .taken))
-
-is-above-requires : tie.Need-is-above-requires
-is-above-requires c κs = search needs
-
-is-allowed-requires : tie.Need-is-allowed-requires
-is-allowed-requires c κs = search needs
 
 returns-3 : tie.Need-returns-3
 unfolding markOffence
@@ -38,11 +29,8 @@ pub first-offence-spec : {M : Type 1} → statement M
 first-offence-spec =
     tie.close
     (tie.spec
-    cast-if1
-    returns
+    (λ c. search needs) returns
     returns-2
-    is-above-requires
-    is-allowed-requires
-    returns-3
+    (λ c κs. search needs) (λ c κs. search needs) returns-3
     returns-4
     returns-5)

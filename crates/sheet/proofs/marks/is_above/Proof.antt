@@ -5,12 +5,6 @@ use borrow.Author.Tests.{lt-ltb, le-ltb, eq-eqb, ne-eqb}
 use Rattle.sheet.proofs.marks.is_above.Statement.{statement}
 use Rattle.sheet.proofs.marks.is_above.Tie as tie
 
-cast-t : tie.Need-cast-t
-cast-t c = search needs
-
-cast-p : tie.Need-cast-p
-cast-p c = search needs
-
 returns : tie.Need-returns
 returns c = rw (eq-eqb _ 0 (c .if1 .taken))
 
@@ -28,4 +22,4 @@ returns-4 c =
     rw (ne-eqb _ 0 (c .before .before .if1 .left), le-ltb _ _ (c .before .if2 .left), eq-eqb (a .last .time) (a .time) (omega arith))
 
 pub is-above-spec : {M : Type 1} → statement M
-is-above-spec = tie.close (tie.spec cast-t cast-p returns returns-2 returns-3 returns-4)
+is-above-spec = tie.close (tie.spec (λ c. search needs) (λ c. search needs) returns returns-2 returns-3 returns-4)

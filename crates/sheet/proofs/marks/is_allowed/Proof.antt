@@ -4,9 +4,6 @@ use borrow.Author.Tests.{eq-eqb, ne-eqb}
 use Rattle.sheet.proofs.marks.is_allowed.Statement.{statement}
 use Rattle.sheet.proofs.marks.is_allowed.Tie as tie
 
-rem-owner : tie.Need-rem-owner
-rem-owner c = search needs
-
 returns : tie.Need-returns
 returns c = rw (eq-eqb _ 83 (c .if1 .taken))
 
@@ -17,4 +14,4 @@ returns-3 : tie.Need-returns-3
 returns-3 c = rw (ne-eqb _ 83 (c .before .if1 .left), ne-eqb _ 82 (c .if2 .left))
 
 pub is-allowed-spec : {M : Type 1} → statement M
-is-allowed-spec = tie.close (tie.spec rem-owner returns returns-2 returns-3)
+is-allowed-spec = tie.close (tie.spec (λ c. search needs) returns returns-2 returns-3)

@@ -9,7 +9,7 @@ use Rattle.limits.specs.Limits.{marksMost, slotsMost}
 use Rattle.sheet.specs.Marks.{noMark, markLine}
 use Rattle.sheet.specs.Sheets.{noMarks}
 use Rattle.sheet.specs.Inside.{offenceOf}
-use Rattle.sheet.proofs.LineLaws.{Reached, begins, goes-on, stops, ends}
+use Rattle.sheet.proofs.SectionLaws.{Reached, begins, goes-on, stops, ends}
 use Rattle.sheet.proofs.MarkLaws.{good-mark}
 use Rattle.sheet.proofs.marks.mark_lines.Statement.{statement}
 use Rattle.sheet.proofs.marks.mark_lines.Tie as tie
@@ -21,36 +21,15 @@ Inv-loop s start n count list₀ last₀ at₀ k₀ list last at k =
 abbrev μ-loop : tie.MeasureT-loop
 μ-loop s start n count list₀ last₀ at₀ k₀ list last at k = count - k
 
-no-marks-requires : tie.Need-no-marks-requires Inv-loop μ-loop
-no-marks-requires c κs = search needs
-
-no-mark-requires : tie.Need-no-mark-requires Inv-loop μ-loop
-no-mark-requires c κs = search needs
-
 loop-holds : tie.Need-loop-holds Inv-loop μ-loop
 unfolding noMarks
 loop-holds c = (rw (c .before .no-marks .ensures) (begins _ _ _ _), rw (c .no-mark .ensures, c .before .no-marks .ensures), rw (c .before .no-marks .ensures))
-
-fields-requires : tie.Need-fields-requires Inv-loop μ-loop
-fields-requires c κs = search needs
-
-enum-known-why : tie.Need-enum-known-why Inv-loop μ-loop
-enum-known-why c = search needs
 
 returns : tie.Need-returns Inv-loop μ-loop
 unfolding markLine
 returns c =
     let g = c .before .why .given in
     rw (stops _ _ _ _ _ _ _ (c .before .before .before .before .before .loop .inv .0) (c .before .before .before .before .loop-test .taken) (g .0 .0) (g .0 .1 .0) (rw (← c .before .before .before .fields .ensures, g .1)))
-
-enum-known-time : tie.Need-enum-known-time Inv-loop μ-loop
-enum-known-time c = search needs
-
-first-offence-requires : tie.Need-first-offence-requires Inv-loop μ-loop
-first-offence-requires c κs = search needs
-
-enum-known-verdict : tie.Need-enum-known-verdict Inv-loop μ-loop
-enum-known-verdict c = search needs
 
 returns-2 : tie.Need-returns-2 Inv-loop μ-loop
 unfolding markLine
@@ -59,9 +38,6 @@ returns-2 c =
     let o = c .before .before .before .before .before .before .before .before .before .loop in
     rw (stops _ _ _ _ _ _ _ (o .inv .0) (c .before .before .before .before .before .before .before .before .loop-test .taken) (g .0 .0) (o .at)
     (rw (← c .before .before .before .before .before .before .before .fields .ensures, c .before .before .before .before .before .time .given .1, ← o .inv .1, ← c .before .before .before .first-offence .ensures, g .1)))
-
-enum-told : tie.Need-enum-told Inv-loop μ-loop
-enum-told c = search needs
 
 -- a mark without an offence is within its limits
 within : (c : tie.After-enum-told Inv-loop μ-loop) → (c .before .before .before .before .time .given .0 .0 < slotsMost) × (c .before .before .before .before .time .given .0 .1 .0 < c .before .before .before .before .before .before .before .before .before .before .before .before .args .n)
@@ -74,18 +50,6 @@ cast-t24 c = omega (arith, within c)
 
 cast-t25 : tie.Need-cast-t25 Inv-loop μ-loop
 cast-t25 c = omega (arith, within c)
-
-mul-list : tie.Need-mul-list Inv-loop μ-loop
-mul-list c = search needs
-
-array-set-from-list : tie.Need-array-set-from-list Inv-loop μ-loop
-array-set-from-list c = search needs
-
-add-k : tie.Need-add-k Inv-loop μ-loop
-add-k c = search needs
-
-loop-less : tie.Need-loop-less Inv-loop μ-loop
-loop-less c = search needs
 
 loop-again : tie.Need-loop-again Inv-loop μ-loop
 unfolding markLine
@@ -105,24 +69,10 @@ pub mark-lines-spec : {M : Type 1} → statement M
 mark-lines-spec =
     tie.close
     (tie.spec
-    Inv-loop
-    μ-loop
-    no-marks-requires
-    no-mark-requires
-    loop-holds
-    fields-requires
-    enum-known-why
-    returns
-    enum-known-time
-    first-offence-requires
-    enum-known-verdict
-    returns-2
-    enum-told
-    cast-t24
+    Inv-loop μ-loop (λ c κs. search needs) (λ c κs. search needs) loop-holds
+    (λ c κs. search needs) (λ c. search needs) returns
+    (λ c. search needs) (λ c κs. search needs) (λ c. search needs) returns-2
+    (λ c. search needs) cast-t24
     cast-t25
-    mul-list
-    array-set-from-list
-    add-k
-    loop-less
-    loop-again
+    (λ c. search needs) (λ c. search needs) (λ c. search needs) (λ c. search needs) loop-again
     returns-3)

@@ -4,12 +4,9 @@ use Rattle.sheet.specs.Sheets.{noMarks}
 use Rattle.sheet.proofs.marks.no_marks.Statement.{statement}
 use Rattle.sheet.proofs.marks.no_marks.Tie as tie
 
-no-mark-requires : tie.Need-no-mark-requires
-no-mark-requires c κs = search needs
-
 returns : tie.Need-returns
 unfolding noMarks
 returns c = rw (c .no-mark .ensures)
 
 pub no-marks-spec : {M : Type 1} → statement M
-no-marks-spec = tie.close (tie.spec no-mark-requires returns)
+no-marks-spec = tie.close (tie.spec (λ c κs. search needs) returns)

@@ -8,10 +8,11 @@ use lib.ListN.{getD}
 use borrow.Author.Count.{below-more}
 use Rattle.limits.specs.Limits.{moduleMost}
 use Rattle.limits.specs.declared.Refusal.the-variants.{ModuleTwice}
-use Rattle.sheet.specs.Lines.{moduleLine}
+use Rattle.sheet.specs.Sections.{moduleLine}
 use Rattle.sheet.specs.Sheets.{noModules}
-use Rattle.sheet.specs.Inside.{foundOf}
-use Rattle.sheet.proofs.LineLaws.{line-within, is-new, not-new, Reached, begins, goes-on, stops, ends}
+use Rattle.sheet_lines.specs.Pieces.{foundOf}
+use Rattle.sheet_lines.proofs.LineLaws.{line-within}
+use Rattle.sheet.proofs.SectionLaws.{is-new, not-new, Reached, begins, goes-on, stops, ends}
 use Rattle.sheet.proofs.modules.module_lines.Statement.{statement}
 use Rattle.sheet.proofs.modules.module_lines.Tie as tie
 
@@ -27,23 +28,8 @@ Inv-lines s start count list₀ at₀ k₀ list at k = Reached (moduleLine s) co
 abbrev μ-lines : tie.MeasureT-lines
 μ-lines s start count list₀ at₀ k₀ list at k = count - k
 
-no-modules-requires : tie.Need-no-modules-requires Inv-loop μ-loop Inv-lines μ-lines
-no-modules-requires c κs = search needs
-
 lines-holds : tie.Need-lines-holds Inv-loop μ-loop Inv-lines μ-lines
 lines-holds c = rw (c .no-modules .ensures) (begins _ _ _ _)
-
-cast-line : tie.Need-cast-line Inv-loop μ-loop Inv-lines μ-lines
-cast-line c = search needs
-
-line-requires : tie.Need-line-requires Inv-loop μ-loop Inv-lines μ-lines
-line-requires c κs = search needs
-
-enum-known-one : tie.Need-enum-known-one Inv-loop μ-loop Inv-lines μ-lines
-enum-known-one c = search needs
-
-enum-told : tie.Need-enum-told Inv-loop μ-loop Inv-lines μ-lines
-enum-told c = search needs
 
 returns : tie.Need-returns Inv-loop μ-loop Inv-lines μ-lines
 unfolding moduleLine
@@ -54,35 +40,8 @@ returns c =
 cast-number : tie.Need-cast-number Inv-loop μ-loop Inv-lines μ-lines
 cast-number c = omega (arith, line-within 1 moduleMost _ _ _ _ (sym (c .before .before .before .line .ensures) ∙ ap foundOf (c .before .one .given .1)))
 
-loop-holds : tie.Need-loop-holds Inv-loop μ-loop Inv-lines μ-lines
-loop-holds c = search needs
-
-mul-if1 : tie.Need-mul-if1 Inv-loop μ-loop Inv-lines μ-lines
-mul-if1 c = search needs
-
-array-read-if1 : tie.Need-array-read-if1 Inv-loop μ-loop Inv-lines μ-lines
-array-read-if1 c = search needs
-
-add-j : tie.Need-add-j Inv-loop μ-loop Inv-lines μ-lines
-add-j c = search needs
-
-loop-less : tie.Need-loop-less Inv-loop μ-loop Inv-lines μ-lines
-loop-less c = search needs
-
 loop-again : tie.Need-loop-again Inv-loop μ-loop Inv-lines μ-lines
 loop-again c = (omega arith, below-more _ _ (c .before .before .loop .inv .1) (c .if1 .left))
-
-mul-list : tie.Need-mul-list Inv-loop μ-loop Inv-lines μ-lines
-mul-list c = search needs
-
-array-write-list : tie.Need-array-write-list Inv-loop μ-loop Inv-lines μ-lines
-array-write-list c = search needs
-
-add-k : tie.Need-add-k Inv-loop μ-loop Inv-lines μ-lines
-add-k c = search needs
-
-lines-less : tie.Need-lines-less Inv-loop μ-loop Inv-lines μ-lines
-lines-less c = search needs
 
 lines-again : tie.Need-lines-again Inv-loop μ-loop Inv-lines μ-lines
 unfolding moduleLine
@@ -109,28 +68,10 @@ pub module-lines-spec : {M : Type 1} → statement M
 module-lines-spec =
     tie.close
     (tie.spec
-    Inv-loop
-    μ-loop
-    Inv-lines
-    μ-lines
-    no-modules-requires
-    lines-holds
-    cast-line
-    line-requires
-    enum-known-one
-    enum-told
-    returns
+    Inv-loop μ-loop Inv-lines μ-lines (λ c κs. search needs) lines-holds
+    (λ c. search needs) (λ c κs. search needs) (λ c. search needs) (λ c. search needs) returns
     cast-number
-    loop-holds
-    mul-if1
-    array-read-if1
-    add-j
-    loop-less
-    loop-again
-    mul-list
-    array-write-list
-    add-k
-    lines-less
-    lines-again
+    (λ c. search needs) (λ c. search needs) (λ c. search needs) (λ c. search needs) (λ c. search needs) loop-again
+    (λ c. search needs) (λ c. search needs) (λ c. search needs) (λ c. search needs) lines-again
     returns-2
     returns-3)

@@ -1,13 +1,14 @@
 -- `slot_lines`: a line a turn. Assumes nothing.
 use borrow.Author.Needs.{needs}
 use Prim.Native.Nat.{_-_}
-use mathlib.Core.Path.{_≡_, sym, ap, _∙_}
+use mathlib.Core.Path.{sym, ap, _∙_}
 use native.Mathlib.Omega.{arith}
-use Rattle.sheet.specs.Bytes.{isHeard, byteAt}
-use Rattle.sheet.specs.Lines.{ended, slotLine}
+use Rattle.sheet_lines.specs.Bytes.{isHeard}
+use Rattle.sheet_lines.specs.Pieces.{foundOf}
+use Rattle.sheet_lines.proofs.LineLaws.{lone-found}
+use Rattle.sheet.specs.Sections.{slotLine}
 use Rattle.sheet.specs.Sheets.{noSlots}
-use Rattle.sheet.specs.Inside.{foundOf}
-use Rattle.sheet.proofs.LineLaws.{heard-small, lone-found, Reached, begins, goes-on, stops, ends}
+use Rattle.sheet.proofs.SectionLaws.{heard-small, Reached, begins, goes-on, stops, ends}
 use Rattle.sheet.proofs.slots.slot_lines.Statement.{statement}
 use Rattle.sheet.proofs.slots.slot_lines.Tie as tie
 
@@ -17,51 +18,23 @@ Inv-loop s start count list₀ at₀ k₀ list at k = Reached (slotLine s) count
 abbrev μ-loop : tie.MeasureT-loop
 μ-loop s start count list₀ at₀ k₀ list at k = count - k
 
-no-slots-requires : tie.Need-no-slots-requires Inv-loop μ-loop
-no-slots-requires c κs = search needs
-
 loop-holds : tie.Need-loop-holds Inv-loop μ-loop
 loop-holds c = rw (c .no-slots .ensures) (begins _ _ _ _)
-
-byte-requires : tie.Need-byte-requires Inv-loop μ-loop
-byte-requires c κs = search needs
-
-to-end-requires : tie.Need-to-end-requires Inv-loop μ-loop
-to-end-requires c κs = search needs
-
-read : (c : tie.After-to-end Inv-loop μ-loop) → foundOf (c .to-end .result) ≡ ended (c .before .before .before .before .before .before .args .s .now) (byteAt isHeard (c .before .before .before .before .before .before .args .s .now) (c .before .before .before .loop .at))
-read c = c .to-end .ensures ∙ ap (ended (c .before .before .before .before .before .before .args .s .now)) (c .before .byte .ensures)
-
-enum-known-one : tie.Need-enum-known-one Inv-loop μ-loop
-enum-known-one c = search needs
-
-enum-told : tie.Need-enum-told Inv-loop μ-loop
-enum-told c = search needs
 
 returns : tie.Need-returns Inv-loop μ-loop
 unfolding slotLine
 returns c =
     let g = c .enum-told .given in
-    let o = c .before .before .before .before .before .loop in
-    rw (g .1, stops _ _ _ _ _ _ _ (o .inv) (c .before .before .before .before .loop-test .taken) (g .0 .0) (g .0 .1 .0) (rw (← read (c .before .before), g .1)))
+    rw (g .1, stops _ _ _ _ _ _ _ (c .before .before .before .before .loop .inv) (c .before .before .before .loop-test .taken) (g .0 .0) (g .0 .1 .0) (rw (← c .before .before .lone .ensures, g .1)))
 
 cast-list : tie.Need-cast-list Inv-loop μ-loop
 cast-list c =
     let v = c .before .one .given .0 .0 in
-    omega (arith, heard-small v (lone-found isHeard _ _ v _ (sym (read (c .before .before .before)) ∙ ap foundOf (c .before .one .given .1))))
-
-array-write-list : tie.Need-array-write-list Inv-loop μ-loop
-array-write-list c = search needs
-
-add-k : tie.Need-add-k Inv-loop μ-loop
-add-k c = search needs
-
-loop-less : tie.Need-loop-less Inv-loop μ-loop
-loop-less c = search needs
+    omega (arith, heard-small v (lone-found isHeard _ _ v _ (sym (c .before .before .before .lone .ensures) ∙ ap foundOf (c .before .one .given .1))))
 
 loop-again : tie.Need-loop-again Inv-loop μ-loop
 unfolding slotLine
-loop-again c = goes-on _ _ _ _ _ _ _ (c .before .before .before .before .before .before .loop .inv) (c .before .before .before .before .before .loop-test .taken) _ _ (rw (← read (c .before .before .before), c .before .one .given .1))
+loop-again c = goes-on _ _ _ _ _ _ _ (c .before .before .before .before .before .loop .inv) (c .before .before .before .before .loop-test .taken) _ _ (rw (← c .before .before .before .lone .ensures, c .before .one .given .1))
 
 returns-2 : tie.Need-returns-2 Inv-loop μ-loop
 returns-2 c = rw (ends _ _ _ _ _ _ _ (c .before .loop .inv) (c .loop-test .left))
@@ -70,18 +43,8 @@ pub slot-lines-spec : {M : Type 1} → statement M
 slot-lines-spec =
     tie.close
     (tie.spec
-    Inv-loop
-    μ-loop
-    no-slots-requires
-    loop-holds
-    byte-requires
-    to-end-requires
-    enum-known-one
-    enum-told
-    returns
+    Inv-loop μ-loop (λ c κs. search needs) loop-holds
+    (λ c κs. search needs) (λ c. search needs) (λ c. search needs) returns
     cast-list
-    array-write-list
-    add-k
-    loop-less
-    loop-again
+    (λ c. search needs) (λ c. search needs) (λ c. search needs) loop-again
     returns-2)

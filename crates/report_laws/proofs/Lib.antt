@@ -1,0 +1,5 @@
+-- The files that prove the theorems on the page.
+pub mod Back
+pub mod Example
+pub mod Printed
+pub mod Unique

@@ -1,0 +1,21 @@
+-- No two results keep the promise of `page`; and in a buffer of the most that a page has, the page stands whole. Assumes nothing.
+use mathlib.Core.Path.{_≡_, sym, ap, _∙_}
+use mathlib.Core.List.{List}
+use Prim.Native.Nat.{ℕ, _≤_}
+use native.Mathlib.Omega.{arith}
+use lib.ListN.{length}
+use lib.Seq.{take-all}
+use borrow.Author.Tests.{le-leb}
+use Rattle.lists.specs.Put.{put}
+use Rattle.report.specs.Promise.{textOf, pageMost, PagePromise}
+
+pub one-page : (sheet page : List ℕ) (r s : ℕ) (page′ page″ : List ℕ) → PagePromise sheet page r page′ → PagePromise sheet page s page″ → (r ≡ s) × (page′ ≡ page″)
+one-page sheet page r s page′ page″ a b = (a .result ∙ sym (b .result), a .bytes ∙ sym (b .bytes))
+
+pub whole-page : (sheet page : List ℕ) (r : ℕ) (page′ : List ℕ) → pageMost ≤ length page → PagePromise sheet page r page′
+    → (r ≡ length (textOf sheet)) × (page′ ≡ put page 0 (textOf sheet))
+whole-page sheet page r page′ h a =
+    let l : length (textOf sheet) ≤ length page = omega (arith, a .short) in (
+      a .result ∙ rw (le-leb (length (textOf sheet)) (length page) l),
+      a .bytes ∙ ap (put page 0) (take-all (length page) (textOf sheet) l),
+    )

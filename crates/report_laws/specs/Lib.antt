@@ -1,0 +1,3 @@
+-- The files that state the theorems on the page.
+pub mod Back
+pub mod Example

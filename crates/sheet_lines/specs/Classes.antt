@@ -1,0 +1,27 @@
+-- The reader's private classes of bytes in the words of the definitions. Nothing that is promised of a public function rests on this file.
+use Prim.Native.Nat.{ℕ, _+_}
+use mathlib.Core.Bool.{cond, _&&_, _||_}
+use lib.Dec.{leb, eqb}
+use Rattle.sheet_lines.specs.Bytes.{space, lineFeed, digitZero, send, receive, dark, heardOne, heardZero, heardSilence}
+use Rattle.sheet_lines.specs.declared.bytes.Class.{Class}
+use Rattle.sheet_lines.specs.declared.bytes.Class.the-variants.{Bit, Digit, Space, Feed, Kind, Silence, Other}
+
+-- the class of a byte
+unfoldable pub classOf : ℕ → Class
+classOf b =
+    cond (leb heardZero b && leb b heardOne) Bit
+    (cond (leb (digitZero + 2) b && leb b (digitZero + 9)) Digit
+    (cond (eqb b space) Space
+    (cond (eqb b lineFeed) Feed
+    (cond ((leb receive b && leb b send) || eqb b dark) Kind
+    (cond (eqb b heardSilence) Silence Other)))))
+
+-- the classes by number
+abbrev pub codeOf : Class → ℕ
+codeOf Bit = 0
+codeOf Digit = 1
+codeOf Space = 2
+codeOf Feed = 3
+codeOf Kind = 4
+codeOf Silence = 5
+codeOf Other = 6
