@@ -5,12 +5,14 @@ use mathlib.Core.Path.{_≡_}
 use Prim.Native.Nat.{ℕ, _+_, _*_, _^_, _≤_, _<_}
 use lib.Dec.{eqb}
 use lib.ListN.{replicate}
+use Rattle.limits.specs.Limits.{roomMost}
 use Rattle.limits.specs.Refusals.{done, refused}
 use Rattle.limits.specs.declared.Refusal.the-variants.{NotARing}
 use Rattle.lists.specs.Counted.{sum}
 use Rattle.seats.specs.Sets.{sizeOf}
 use Rattle.ring.specs.Ring.{seatOf, withCounts, zeroRing}
 use Rattle.ring.specs.Refusals.{told}
+use Rattle.ring.specs.Trail.{width}
 use Rattle.ring.specs.Promise.{StepPromise, ringOf, trailOf}
 use Rattle.ring.specs.declared.Ring.{Ring}
 use Rattle.ring.specs.declared.Stepped.{Stepped}
@@ -35,7 +37,7 @@ on f b m = f (b .ring) (m .send) (m .receive) (b .trail)
 
 -- it keeps the promise of step at least on each bench of a run from a fresh ring with a cleared buffer of up to 5,120 bytes
 abbrev pub Keeps : Program → Type 0
-Keeps f = (n bytes : ℕ) → 2 ≤ n → n ≤ 32 → bytes ≤ 5120 → (b : Bench) → Reached n (replicate bytes 0) b → (m : Marks) → m .receive < 2 ^ 32
+Keeps f = (n bytes : ℕ) → 2 ≤ n → n ≤ 32 → bytes ≤ width * roomMost → (b : Bench) → Reached n (replicate bytes 0) b → (m : Marks) → m .receive < 2 ^ 32
     → StepPromise (b .ring) (m .send) (m .receive) (b .trail) (on f b m .stepped) (on f b m .trail)
 
 -- ---- 1: it refuses everything
@@ -79,7 +81,7 @@ pub record Invents (f : Program) : Type 0 where
   pub bytes : ℕ
   pub low : 2 ≤ n
   pub high : n ≤ 32
-  pub small : bytes ≤ 5120
+  pub small : bytes ≤ width * roomMost
   pub bench : Bench
   pub run : Reached n (replicate bytes 0) bench
   pub marks : Marks

@@ -1,3 +1,3 @@
 -- The files that prove demand 2 of a sheet's run.
-pub mod Reader
+pub mod Refused
 pub mod Runs

@@ -1,18 +1,12 @@
--- Demand 2 of the run of a sheet: at every step taken, and of its whole trail; and no run is refused 8 with a trail of 5,120 bytes. Assumes nothing.
-use mathlib.Core.Path.{_≡_, refl, sym, ap, _∙_}
+-- Demand 2 of the run of a sheet: at every step taken, and of its whole trail. Assumes nothing.
+use mathlib.Core.Path.{_≡_, refl, sym, ap}
 use mathlib.Core.Bool.{true}
 use mathlib.Core.List.{List}
-use mathlib.Core.Logic.{⊎-elim}
 use Prim.Native.Nat.{ℕ, _*_, _≤_, _<_}
-use native.Mathlib.Nat.{mul-le-mul}
-use native.Mathlib.Omega.{arith}
-use lib.ListN.{length}
 use Rattle.limits.specs.Refusals as limits
-use Rattle.limits.specs.Refusals.{numberOf}
 use Rattle.lists.specs.Counted.{tab}
 use Rattle.ring.specs.Ring.{seatOf}
 use Rattle.ring.specs.Step as step
-use Rattle.ring.specs.Trail.{width}
 use Rattle.ring.specs.declared.Ring.{Ring}
 use Rattle.ring.specs.declared.Answer.the-variants.{Taken}
 use Rattle.steps.specs.Run.{Marks, Bench, toldOn, stepOn, Reached}
@@ -23,15 +17,11 @@ use Rattle.demand2.specs.Story.{OneStory, WholeStory}
 use Rattle.demand2.proofs.Paper.{Holds, paper-run}
 use Rattle.demand2.proofs.Story as story
 use Rattle.demand2.proofs.Whole.{whole-story}
-use Rattle.demand2.proofs.Sum as sum
 use Rattle.demand2.proofs.Sum.{SumIsN, sum-always, at-most-square}
 use Rattle.run.specs.Marks.{marksAt}
-use Rattle.run.specs.Outcome.{Outcome, refused, Result}
+use Rattle.run.specs.Outcome.{Result}
 use Rattle.run.specs.Run.{runSheet}
-use Rattle.run.proofs.Reading.{read-is, run-offence}
-use Rattle.run.proofs.Story.{benchAt, Ending, agreed, differed, stopped, run-story}
-use Rattle.demand2_runs.specs.Room.{NeverEight}
-use Rattle.demand2_runs.proofs.Reader.{reader-numbers}
+use Rattle.run.proofs.Story.{benchAt, run-story}
 
 -- ---- what is said
 
@@ -79,26 +69,3 @@ run-holds sheet good trail =
       total = sum-always (sheet .n) trail low high ms;
       square = rw k (at-most-square (sheet .n) trail low high ms);
     }
-
--- ---- the room
-
-ending-room : (sheet : Sheet) → GoodSheet sheet → (t : List ℕ) → width * (32 * 32) ≤ length t → (k : ℕ) (o : Outcome) → Ending sheet t k o → (place : ℕ) → o ≡ refused 8 place → ⊥
-ending-room sheet good t long k o (agreed e) place q = let z : _≡_ {A = ℕ} 0 1 = cc in omega arith
-ending-room sheet good t long k o (differed l n) place q = let z : _≡_ {A = ℕ} 0 1 = cc in omega arith
-ending-room sheet good t long k o (stopped {number = number} {place = at} l a e) place q =
-    let x : number ≡ 8 = cc in
-    let high = good .seats .1 in
-    let sq : sheet .n * sheet .n ≤ 32 * 32 = mul-le-mul high high in
-    sum.never-eight (sheet .n) t (good .seats .0) high (omega arith) (tab k (marksAt sheet)) (marksAt sheet k) at (e ∙ ap (λ (j : ℕ). limits.refused j at) x)
-
-pub never-eight : NeverEight
-never-eight bytes t long place e =
-    ⊎-elim
-    (λ r.
-    let s = run-story (r .0) t in
-    ending-room (r .0) (r .1) t (omega arith) (s .steps) _ (s .ending) place (sym (ap (λ (y : Result). y .outcome) (r .2 t)) ∙ e))
-    (λ r.
-    let q = sym (ap (λ (y : Result). y .outcome) (run-offence bytes t (r .2))) ∙ e in
-    let n : numberOf (r .0) ≡ 8 = cc in
-    omega (arith, reader-numbers bytes (r .0) (r .1) (r .2)))
-    (read-is bytes)

@@ -11,7 +11,7 @@ mod text; // text.rt: bytes, words and numbers in a lent buffer
 pub const PAGE_MOST: usize = 21504;
 
 // The trail that is lent to the run: all the room that a trail can have.
-const TRAIL_LENT: usize = lines::WIDTH * limits::ROOM_MOST;
+const TRAIL_LENT: usize = ring::WIDTH * limits::ROOM_MOST;
 
 fn no_trail() -> [u8; TRAIL_LENT]
     ensures { λ r. ⌜ r ≡ noTrail ⌝ }

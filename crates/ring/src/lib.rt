@@ -12,6 +12,9 @@ mod start;
 mod table;
 mod terms;
 
+// A record's bytes: time low, time high, holder, removed seat, cause.
+pub const WIDTH: usize = 5;
+
 // The whole ring is one value. A first fault is kept as its time plus one, and 0 is none.
 pub struct Ring {
     pub sets: [u32; limits::SEATS_MOST],

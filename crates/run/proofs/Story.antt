@@ -41,6 +41,7 @@ pub data Ending (sheet : Sheet) (trail : List ℕ) (k : ℕ) : Outcome → Type 
 -- every step before was taken, and the bus agreed
 pub record Story (sheet : Sheet) (trail : List ℕ) (x : Result) : Type 0 where
   pub steps : ℕ
+  pub time : benchAt sheet trail steps .ring .time ≡ steps
   pub taken-all : (i : ℕ) → i < steps → toldOn (marksAt sheet i) (benchAt sheet trail i) ≡ limits.done
   pub agreed-all : (i : ℕ) → i < steps → Agrees sheet trail i
   pub ending : Ending sheet trail steps (x .outcome)
@@ -76,7 +77,7 @@ module _ (sheet : Sheet) (trail : List ℕ) where
   tells : (left k : ℕ) → left + k ≡ sheet .«slot_count» → Upto k → Story sheet trail (runFrom left sheet (benchAt sheet trail k))
   tells zero k e u =
       subst (Story sheet trail) (sym (run-ends sheet (benchAt sheet trail k)))
-      (record { steps = k; taken-all = u .took; agreed-all = u .agree; ending = agreed (omega arith); ring = refl; written = refl; modules = refl })
+      (record { steps = k; time = u .time; taken-all = u .took; agreed-all = u .agree; ending = agreed (omega arith); ring = refl; written = refl; modules = refl })
   tells (suc left) k e u =
       let b = benchAt sheet trail k in
       let same : spokenOn (marksOn sheet b) b ≡ spokenOn (marksAt sheet k) b = ap (λ (t : ℕ). spokenOn (marksAt sheet t) b) (u .time) in
@@ -91,12 +92,12 @@ module _ (sheet : Sheet) (trail : List ℕ) where
       subst (Story sheet trail) (sym (run-goes-on sheet b left p t ∙ ap (runFrom left sheet) next))
       (tells left (suc k) (omega arith) (upto-more k u (sym answer ∙ t) a)))
       (λ t. subst (Story sheet trail) (sym (run-stops sheet b left p (t .2)))
-      (record { steps = k; taken-all = u .took; agreed-all = u .agree; ending = stopped (omega arith) a (sym answer ∙ t .2); ring = refl; written = refl; modules = refl }))
+      (record { steps = k; time = u .time; taken-all = u .took; agreed-all = u .agree; ending = stopped (omega arith) a (sym answer ∙ t .2); ring = refl; written = refl; modules = refl }))
       (told-is (toldOn (marksOn sheet b) b)))
       (λ p.
       let n : Agrees sheet trail k → ⊥ = λ a. eqb-false _ _ p (same ∙ a ∙ sym line) in
       subst (Story sheet trail) (sym (run-differs sheet b left p ∙ ap (λ (t : ℕ). judged sheet b (differs t)) (u .time)))
-      (record { steps = k; taken-all = u .took; agreed-all = u .agree; ending = differed (omega arith) n; ring = refl; written = refl; modules = refl }))
+      (record { steps = k; time = u .time; taken-all = u .took; agreed-all = u .agree; ending = differed (omega arith) n; ring = refl; written = refl; modules = refl }))
       (both (eqb (spokenOn (marksOn sheet b) b) (heardOn sheet b)))
 
   -- ---- the whole run

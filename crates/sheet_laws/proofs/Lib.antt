@@ -5,3 +5,4 @@ pub mod Good
 pub mod Length
 pub mod Readers
 pub mod Sight
+pub mod Numbers
