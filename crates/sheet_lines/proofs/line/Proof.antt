@@ -1,32 +1,39 @@
 -- `line`: a number to the end of its line, and then its limits. Assumes nothing.
 use borrow.Author.Needs.{needs}
-use mathlib.Core.Path.{_≡_, ap, _∙_}
+use native.Mathlib.Omega.{arith}
 use borrow.Author.Tests.{le-leb, lt-leb}
 use Rattle.lists.proofs.Tests.{and-false}
-use Rattle.sheet_lines.specs.Bytes.{numberAt}
-use Rattle.sheet_lines.specs.Lines.{ended, lineAt}
-use Rattle.sheet_lines.specs.Pieces.{foundOf}
+use Rattle.sheet_lines.specs.Lines.{lineAt}
 use Rattle.sheet_lines.proofs.line.Statement.{statement}
 use Rattle.sheet_lines.proofs.line.Tie as tie
 
-read : (c : tie.After-to-end) → foundOf (c .to-end .result) ≡ ended (c .before .before .before .args .s .now) (numberAt (c .before .before .before .args .s .now) (c .before .before .before .args .at))
-read c = c .to-end .ensures ∙ ap (ended (c .before .before .before .args .s .now)) (c .before .number .ensures)
-
 returns : tie.Need-returns
 unfolding lineAt
-returns c = rw (← read (c .before .before), c .enum-told .given .1)
+returns c = rw (← c .before .before .before .number .ensures, ← c .before .before .to-end .ensures, c .enum-told .given .1)
 
 returns-2 : tie.Need-returns-2
 unfolding lineAt
-returns-2 c = rw (← read (c .before .before .before .before), c .before .before .one .given .1, lt-leb _ _ (c .if1 .taken))
+returns-2 c =
+    let v = c .before .before .one in
+    let read = c .before .before .before .before in
+    let a = read .before .before .before .args in
+    rw (← read .before .number .ensures, ← read .to-end .ensures, v .given .1, lt-leb (a .least) (v .given .0 .0) (omega arith))
 
 returns-3 : tie.Need-returns-3
 unfolding lineAt
-returns-3 c = rw (← read (c .before .before .before .before .before), c .before .before .before .one .given .1, lt-leb _ _ (c .if2 .taken), and-false)
+returns-3 c =
+    let v = c .before .before .before .one in
+    let read = c .before .before .before .before .before in
+    let a = read .before .before .before .args in
+    rw (← read .before .number .ensures, ← read .to-end .ensures, v .given .1, lt-leb (v .given .0 .0) (a .most) (omega arith), and-false)
 
 returns-4 : tie.Need-returns-4
 unfolding lineAt
-returns-4 c = rw (← read (c .before .before .before .before .before), c .before .before .before .one .given .1, le-leb _ _ (c .before .if1 .left), le-leb _ _ (c .if2 .left))
+returns-4 c =
+    let v = c .before .before .before .one in
+    let read = c .before .before .before .before .before in
+    let a = read .before .before .before .args in
+    rw (← read .before .number .ensures, ← read .to-end .ensures, v .given .1, le-leb (a .least) (v .given .0 .0) (omega arith), le-leb (v .given .0 .0) (a .most) (omega arith))
 
 pub line-spec : {M : Type 1} → statement M
 line-spec =
