@@ -1,4 +1,3 @@
-pub mod Decimal
 pub mod Inside
 pub mod Page
 pub mod Promise
