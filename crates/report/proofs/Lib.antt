@@ -1,5 +1,4 @@
--- The files of laws that the proofs of `page` cite, and the theorems on every page.
-pub mod Decimals
+-- The files of laws that the proofs of `page` cite.
 pub mod LineLaws
 pub mod PageLaws
 pub mod Writing

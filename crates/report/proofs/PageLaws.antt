@@ -24,8 +24,9 @@ use Rattle.run.proofs.Fits.{run-fits}
 use Rattle.report.specs.Page.{busLine, withinLine, outsideLine, refusedLine, pageOf}
 use Rattle.report.specs.Promise.{noTrail, textOf, pageMost, PagePromise}
 use Rattle.report.specs.Inside.{Written, Writes, Holds, resultOf, upToFaults}
-use Rattle.report.specs.declared.text.Place.{Place}
-use Rattle.report.proofs.Writing.{nothing, same}
+use Rattle.text.specs.Lent.{lent, placeAt}
+use Rattle.text.specs.declared.Place.{Place}
+use Rattle.report.proofs.Writing.{nothing, then-text, same}
 
 -- ---- the page by the answer
 
@@ -70,7 +71,7 @@ module _ (sheet : List ℕ) {page text page′ : List ℕ} {end : Place} (e : te
   w = same e f
 
   all : Written page (textOf sheet) end page′
-  all = w .more page [] (nothing page)
+  all = rw (← w .done) at (then-text page [] (lent (placeAt 0 true) page) (textOf sheet) (nothing page))
 
   pub page-whole : end .whole ≡ true → PagePromise sheet page (end .at) page′
   page-whole h =

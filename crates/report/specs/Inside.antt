@@ -10,9 +10,10 @@ use Rattle.ring.specs.Trail.{width}
 use Rattle.ring.specs.declared.Ring.{Ring}
 use Rattle.run.specs.Outcome.{Result, said}
 use Rattle.run.specs.declared.Ran.{Ran}
-use Rattle.report.specs.Decimal.{decimal}
+use Rattle.text.specs.Decimal.{decimal}
 use Rattle.report.specs.Page.{lineOf, recordsAndSeats}
-use Rattle.report.specs.declared.text.Place.{Place}
+use Rattle.text.specs.Lent.{lent, withText}
+use Rattle.text.specs.declared.Place.{Place}
 
 -- the most bytes in the line of a count, of a record, of a seat and in the two verdict lines: no number in them has more than five digits
 abbrev pub countMost : ℕ
@@ -43,9 +44,9 @@ pub record Written (start text : List ℕ) (place : Place) (page : List ℕ) : T
   pub at : place .at ≡ length (take (length start) text)
   pub whole : place .whole ≡ leb (length text) (length start)
 
--- the text, of at most so many bytes, is written after whatever is written already
+-- the text, of at most so many bytes, is written
 pub record Writes (text : List ℕ) (most : ℕ) (place : Place) (page : List ℕ) (place′ : Place) (page′ : List ℕ) : Type 0 where
-  pub more : (start before : List ℕ) → Written start before place page → Written start (before ++ text) place′ page′
+  pub done : lent place′ page′ ≡ withText (lent place page) text
   pub short : length text ≤ most
 
 -- what a run gives back, with its trail

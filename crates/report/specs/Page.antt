@@ -9,9 +9,9 @@ use Rattle.ring.specs.Ring.{seatOf, out}
 use Rattle.ring.specs.Trail.{width}
 use Rattle.ring.specs.Refusals.{within, outside, unfit}
 use Rattle.ring.specs.declared.Ring.{Ring}
-use Rattle.sheet_lines.specs.Bytes.{space, lineFeed}
+use Rattle.text.specs.Ascii.{space, lineFeed}
 use Rattle.run.specs.Outcome.{Heard, agrees, differs, Outcome, ran, refused, Result}
-use Rattle.report.specs.Decimal.{decimal}
+use Rattle.text.specs.Decimal.{decimal}
 
 -- ---- lines
 

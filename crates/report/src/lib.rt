@@ -5,7 +5,6 @@ use text::Place;
 
 mod lines; // lines.rt: the lines of the page
 mod sections; // sections.rt: its sections
-mod text; // text.rt: bytes, words and numbers in a lent buffer
 
 // No page is longer than so many bytes.
 pub const PAGE_MOST: usize = 21504;

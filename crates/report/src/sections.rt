@@ -7,12 +7,12 @@ ghost use Rattle.report.specs.Promise.{pageMost};
 ghost use Rattle.report.specs.Inside.{countMost, recordMost, seatMost, upToFaults, upToFaultsMost, Writes, Holds, resultOf};
 ghost use Rattle.run.specs.Outcome.{heard};
 use crate::lines;
-use crate::text::Place;
 use ring::Ring;
 use ring::Verdict;
 use run::Answer;
 use run::Bus;
 use run::Ran;
+use text::Place;
 
 // The trail's records in order.
 fn record_section(

@@ -8,8 +8,9 @@ use lib.Dec.{ltb}
 use lib.ListN.{getD}
 use borrow.Author.Tests.{ltb-true, ltb-false}
 use Rattle.lists.proofs.Tests.{both}
-use Rattle.report.specs.Decimal.{digit, decimal}
-use Rattle.report.proofs.Decimals.{decimal-one, decimal-more}
+use Rattle.text.specs.Ascii.{digit}
+use Rattle.text.specs.Decimal.{decimal}
+use Rattle.text.proofs.Decimals.{decimal-one, decimal-more}
 use Rattle.report_laws.specs.Back.{readAfter, readBack}
 
 -- ---- reading them back gives the number

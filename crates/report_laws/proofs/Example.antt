@@ -15,7 +15,7 @@ use Rattle.sheet.specs.Sheets.{noModules, noMarks, noSlots, sheetIn}
 use Rattle.run.specs.Marks.{marksAt}
 use Rattle.run.specs.Outcome.{differs}
 use Rattle.run.specs.Run.{runFrom, runOf}
-use Rattle.report.specs.Decimal.{digitsIn, decimal}
+use Rattle.text.specs.Decimal.{digitsIn, decimal}
 use Rattle.report.specs.Page.{recordLine, seatLine, busLine, outsideLine, refusedLine, verdict, pageOf}
 use Rattle.report.specs.Promise.{noTrail, textOf}
 use Rattle.report_laws.specs.Example.{exampleSheet, examplePage}

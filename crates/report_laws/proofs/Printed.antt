@@ -7,7 +7,7 @@ use lib.ListN.{length, getD}
 use lib.Seq.{getD-append-add}
 use Rattle.ring.specs.Table.{Gone}
 use Rattle.ring.specs.Trail.{width, letterOf, recordOf}
-use Rattle.report.specs.Decimal.{decimal}
+use Rattle.text.specs.Decimal.{decimal}
 use Rattle.report.specs.Page.{lineOf, byteOf, recordLine}
 
 module _ (modules before after : List ℕ) (k time holder : ℕ) (g : Gone) (starts : length before ≡ width * k) where

@@ -12,7 +12,7 @@ use lib.Dec.{ltb, eqb}
 use borrow.Author.Tests.{lt-ltb, ltb-true}
 use Rattle.limits.specs.Refusals.{numberOf}
 use Rattle.limits.specs.declared.Refusal.{Refusal}
-use Rattle.limits.specs.declared.Refusal.the-variants.{EndsEarly, WrongByte, BytesAfter}
+use Rattle.limits.specs.declared.Refusal.the-variants.{EndsEarly, WrongByte}
 use Rattle.sheet_lines.specs.Found.{Found, found, offence, onFound, andThen}
 use Rattle.sheet_lines.specs.Bytes.{isDigit, byteAt, digitsAt, numberAt}
 use Rattle.sheet_lines.proofs.ByteLaws.{not-both, byte-found}

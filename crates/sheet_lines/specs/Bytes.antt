@@ -5,18 +5,8 @@ use mathlib.Core.List.{List}
 use lib.ListN.{length, getD}
 use lib.Dec.{ltb, leb, eqb}
 use Rattle.limits.specs.declared.Refusal.the-variants.{EndsEarly, WrongByte}
+use Rattle.text.specs.Ascii.{space, lineFeed, digit}
 use Rattle.sheet_lines.specs.Found.{Found, found, offence, onFound, andThen}
-
--- what parts the words of a line, and what ends the line, in ASCII
-abbrev pub space : ℕ
-space = 32
-
-abbrev pub lineFeed : ℕ
-lineFeed = 10
-
--- the digit 0; the others come after it
-abbrev pub digitZero : ℕ
-digitZero = 48
 
 -- the kinds of marks in ASCII: `S`, `R` and `D`
 abbrev pub send : ℕ
@@ -42,7 +32,7 @@ heardSilence = 45
 
 -- `0` to `9`
 abbrev pub isDigit : ℕ → Bool
-isDigit byte = leb digitZero byte && leb byte (digitZero + 9)
+isDigit byte = leb (digit 0) byte && leb byte (digit 9)
 
 abbrev pub isSpace : ℕ → Bool
 isSpace byte = eqb byte space
@@ -68,9 +58,9 @@ byteAt can sheet at =
 unfoldable pub digitsAt : ℕ → ℕ → List ℕ → ℕ → Found ℕ
 digitsAt zero value sheet at = found value at
 digitsAt (suc k) value sheet at =
-    onFound (byteAt isDigit sheet at) (λ digit next. digitsAt k (value * 10 + (digit - digitZero)) sheet next) (λ why place. found value at)
+    onFound (byteAt isDigit sheet at) (λ byte next. digitsAt k (value * 10 + (byte - digit 0)) sheet next) (λ why place. found value at)
 
 -- a number: 1 to 5 digits without a leading zero (`0` itself is allowed)
 unfoldable pub numberAt : List ℕ → ℕ → Found ℕ
 numberAt sheet at =
-    andThen (byteAt isDigit sheet at) (λ digit next. cond (eqb digit digitZero) (found 0 next) (digitsAt 4 (digit - digitZero) sheet next))
+    andThen (byteAt isDigit sheet at) (λ byte next. cond (eqb byte (digit 0)) (found 0 next) (digitsAt 4 (byte - digit 0) sheet next))

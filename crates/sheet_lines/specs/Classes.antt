@@ -1,8 +1,9 @@
 -- The reader's private classes of bytes in the words of the definitions. Nothing that is promised of a public function rests on this file.
-use Prim.Native.Nat.{ℕ, _+_}
+use Prim.Native.Nat.{ℕ}
 use mathlib.Core.Bool.{cond, _&&_, _||_}
 use lib.Dec.{leb, eqb}
-use Rattle.sheet_lines.specs.Bytes.{space, lineFeed, digitZero, send, receive, dark, heardOne, heardZero, heardSilence}
+use Rattle.text.specs.Ascii.{space, lineFeed, digit}
+use Rattle.sheet_lines.specs.Bytes.{send, receive, dark, heardOne, heardZero, heardSilence}
 use Rattle.sheet_lines.specs.declared.bytes.Class.{Class}
 use Rattle.sheet_lines.specs.declared.bytes.Class.the-variants.{Bit, Digit, Space, Feed, Kind, Silence, Other}
 
@@ -10,7 +11,7 @@ use Rattle.sheet_lines.specs.declared.bytes.Class.the-variants.{Bit, Dig
 unfoldable pub classOf : ℕ → Class
 classOf b =
     cond (leb heardZero b && leb b heardOne) Bit
-    (cond (leb (digitZero + 2) b && leb b (digitZero + 9)) Digit
+    (cond (leb (digit 2) b && leb b (digit 9)) Digit
     (cond (eqb b space) Space
     (cond (eqb b lineFeed) Feed
     (cond ((leb receive b && leb b send) || eqb b dark) Kind

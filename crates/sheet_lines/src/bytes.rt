@@ -25,8 +25,8 @@ fn classify(b: u8) -> Class
     match b {
         crate::HEARD_ZERO..=crate::HEARD_ONE => Class::Bit,
         b'2'..=b'9' => Class::Digit,
-        crate::SPACE => Class::Space,
-        crate::LINE_FEED => Class::Feed,
+        text::SPACE => Class::Space,
+        text::LINE_FEED => Class::Feed,
         crate::RECEIVE..=crate::SEND | crate::DARK => Class::Kind,
         crate::HEARD_SILENCE => Class::Silence,
         _ => Class::Other,

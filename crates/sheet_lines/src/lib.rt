@@ -7,10 +7,6 @@ use limits::Refusal;
 mod bytes; // bytes.rt: what a byte is, and which may stand at a place
 mod numbers; // numbers.rt: numbers
 
-// What parts the words of a line, and what ends the line.
-pub const SPACE: u8 = b' ';
-
-pub const LINE_FEED: u8 = b'\n';
 // The kinds of marks.
 pub const SEND: u8 = b'S';
 

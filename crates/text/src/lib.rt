@@ -1,8 +1,12 @@
-// Text written into a lent buffer: bytes, words and decimal numbers, as far as they fit.
-ghost use mathlib.Core.List.{[], _∷_};
-ghost use lib.ListN.{length};
-ghost use Rattle.report.specs.Decimal.{decimal};
-ghost use Rattle.report.specs.Inside.{Writes};
+// Text: the bytes that part and end its lines; and bytes, words and decimal numbers written into a lent buffer, as far as they fit.
+ghost use mathlib.Core.Path.{_≡_};
+ghost use Rattle.text.specs.Decimal.{decimal};
+ghost use Rattle.text.specs.Lent.{lent, withByte, withText};
+
+// What parts the words of a line, and what ends the line.
+pub const SPACE: u8 = b' ';
+
+pub const LINE_FEED: u8 = b'\n';
 
 // Where the next byte goes, and whether all bytes up to there found room.
 pub struct Place {
@@ -11,7 +15,7 @@ pub struct Place {
 }
 
 pub fn put_byte(page: &mut [u8], place: Place, byte: u8) -> Place
-    ensures { λ r. ⌜ Writes (byte ∷ []) 1 place (now (page .entry)) r (now (page .exit)) ⌝ }
+    ensures { λ r. ⌜ lent r (now (page .exit)) ≡ withByte (lent place (now (page .entry))) byte ⌝ }
 {
     let at = place.at;
     if at < page.len() {
@@ -25,7 +29,7 @@ pub fn put_byte(page: &mut [u8], place: Place, byte: u8) -> Place
 }
 
 pub fn put_word(page: &mut [u8], place: Place, word: &[u8]) -> Place
-    ensures { λ r. ⌜ Writes (now (word .entry)) (length (now (word .entry))) place (now (page .entry)) r (now (page .exit)) ⌝ }
+    ensures { λ r. ⌜ lent r (now (page .exit)) ≡ withText (lent place (now (page .entry))) (now (word .entry)) ⌝ }
 {
     let mut next = place;
     let mut i: usize = 0;
@@ -38,7 +42,7 @@ pub fn put_word(page: &mut [u8], place: Place, word: &[u8]) -> Place
 
 // A number's decimal digits: its tens first, and then its last digit.
 pub fn put_number(page: &mut [u8], place: Place, n: usize) -> Place
-    ensures { λ r. ⌜ Writes (decimal n) 20 place (now (page .entry)) r (now (page .exit)) ⌝ }
+    ensures { λ r. ⌜ lent r (now (page .exit)) ≡ withText (lent place (now (page .entry))) (decimal n) ⌝ }
 {
     if n < 10 {
         return put_byte(page, place, b'0' + (n as u8));

@@ -9,7 +9,8 @@ use lib.Dec.{ltb}
 use lib.ListN.{length, length-append}
 use borrow.Author.Tests.{lt-ltb, le-ltb, ltb-true, ltb-false}
 use Rattle.lists.proofs.Tests.{both}
-use Rattle.report.specs.Decimal.{digit, digitsIn, decimal}
+use Rattle.text.specs.Ascii.{digit}
+use Rattle.text.specs.Decimal.{digitsIn, decimal}
 
 -- ---- a number below 10, and any other
 

@@ -1,0 +1,3 @@
+-- The files of laws that the proofs of the writers cite.
+pub mod Decimals
+pub mod Writing
