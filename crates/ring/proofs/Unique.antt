@@ -27,7 +27,7 @@ one-answer (answers.Refused x p) (answers.Refused y q) e =
     let m : p ≡ q = cc in
     ap₂ answers.Refused (one-reason x y k) m
 
-one-verdict : (a b : Verdict) → found a ≡ found b → a ≡ b
+pub one-verdict : (a b : Verdict) → found a ≡ found b → a ≡ b
 one-verdict verdicts.Within verdicts.Within e = refl
 one-verdict verdicts.Within (verdicts.Outside t) e = let z : _≡_ {A = ℕ} 0 1 = cc in absurd (omega arith)
 one-verdict verdicts.Within (verdicts.Refused y q) e = let z : _≡_ {A = ℕ} 0 1 = cc in absurd (omega arith)

@@ -6,9 +6,7 @@ use native.Mathlib.Omega.{arith}
 use Rattle.limits.proofs.Refusals.{one-reason}
 use Rattle.limits.specs.Refusals.{numberOf}
 use Rattle.ring.specs.Refusals.{found}
-use Rattle.ring.specs.declared.Judged.{Judged}
-use Rattle.ring.specs.declared.Verdict.{Verdict}
-use Rattle.ring.proofs.Unique.{one-judged}
+use Rattle.ring.proofs.Unique.{one-verdict}
 use Rattle.run.specs.Outcome.{heard, ran, refused, said}
 use Rattle.run.specs.Run.{runOf, RunPromise}
 use Rattle.run.specs.declared.Bus.{Bus}
@@ -16,7 +14,6 @@ use Rattle.run.specs.declared.Bus.the-variants.{Agrees, Differs}
 use Rattle.run.specs.declared.Answer.{Answer}
 use Rattle.run.specs.declared.Answer.the-variants.{Ran, Refused}
 use Rattle.run.specs.declared.Ran as value
-use Rattle.run_laws.proofs.Verdicts.{run-verdict}
 
 one-bus : (a b : Bus) → heard a ≡ heard b → a ≡ b
 one-bus Agrees Agrees e = refl
@@ -25,19 +22,12 @@ one-bus (Differs t) Agrees e = let z : _≡_ {A = ℕ} 0 1 = cc in absurd (omega
 one-bus (Differs t) (Differs u) e = ap Differs (cc)
 
 module _ (bytes t : List ℕ) where
-  -- a verdict that is said is the one on the run's ring, of which there is one
-  one-verdict : (bus bus′ : Bus) (v w : Verdict) → ran (heard bus) (found v) ≡ runOf bytes t .outcome → ran (heard bus′) (found w) ≡ runOf bytes t .outcome → v ≡ w
-  one-verdict bus bus′ v w p q =
-      let r = runOf bytes t .ring in
-      let a = run-verdict bytes t (heard bus) (found v) (sym p) in
-      let b = run-verdict bytes t (heard bus′) (found w) (sym q) in
-      ap (λ (j : Judged). j .verdict)
-      (one-judged r (record { verdict = v; ring = r }) (record { verdict = w; ring = r }) (record { verdict = a; ring = refl }) (record { verdict = b; ring = refl }))
-
   one-answer : (a b : Answer) → said a ≡ runOf bytes t .outcome → said b ≡ runOf bytes t .outcome → a ≡ b
   one-answer (Ran bus v) (Ran bus′ w) p q =
-      let e : heard bus ≡ heard bus′ = let h : ran (heard bus) (found v) ≡ ran (heard bus′) (found w) = p ∙ sym q in cc in
-      ap₂ Ran (one-bus bus bus′ e) (one-verdict bus bus′ v w p q)
+      let h : ran (heard bus) (found v) ≡ ran (heard bus′) (found w) = p ∙ sym q in
+      let e : heard bus ≡ heard bus′ = cc in
+      let f : found v ≡ found w = cc in
+      ap₂ Ran (one-bus bus bus′ e) (one-verdict v w f)
   one-answer (Ran bus v) (Refused y k) p q = let z : _≡_ {A = ℕ} 0 1 = cc in absurd (omega arith)
   one-answer (Refused x j) (Ran bus w) p q = let z : _≡_ {A = ℕ} 0 1 = cc in absurd (omega arith)
   one-answer (Refused x j) (Refused y k) p q =

@@ -5,11 +5,8 @@ use Rattle.run.specs.Outcome.{heard, ran}
 use Rattle.run.proofs.judged.Statement.{statement}
 use Rattle.run.proofs.judged.Tie as tie
 
-verdict-requires : tie.Need-verdict-requires
-verdict-requires c κs = search needs
-
 returns : tie.Need-returns
 returns c = record { answer = ap (ran (heard (c .before .args .bus))) (c .verdict .ensures .verdict); ring = refl; modules = refl }
 
 pub judged-spec : {M : Type 1} → statement M
-judged-spec = tie.close (tie.spec verdict-requires returns)
+judged-spec = tie.close (tie.spec (λ c κs. search needs) returns)

@@ -5,28 +5,10 @@ use Rattle.run.proofs.Reading.{keeps-read, keeps-refused}
 use Rattle.run.proofs.run.Statement.{statement}
 use Rattle.run.proofs.run.Tie as tie
 
-read-requires : tie.Need-read-requires
-read-requires c κs = search needs
-
-enum-told : tie.Need-enum-told
-enum-told c = search needs
-
 through-requires : tie.Need-through-requires
 through-requires c κs =
     let read = c .before .before .before .before .read in
     reading-good _ (read .result) (read .ensures) (c .before .enum-told .given .1)
-
-enum-known-answer : tie.Need-enum-known-answer
-enum-known-answer c = search needs
-
-zero-requires : tie.Need-zero-requires
-zero-requires c κs = search needs
-
-refused-requires : tie.Need-refused-requires
-refused-requires c κs = search needs
-
-same-length : tie.Need-same-length
-same-length c = search needs
 
 returns : tie.Need-returns
 returns c =
@@ -44,12 +26,6 @@ pub run-spec : {M : Type 1} → statement M
 run-spec =
     tie.close
     (tie.spec
-    read-requires
-    enum-told
-    through-requires
-    enum-known-answer
-    zero-requires
-    refused-requires
-    same-length
-    returns
+    (λ c κs. search needs) (λ c. search needs) through-requires
+    (λ c. search needs) (λ c κs. search needs) (λ c κs. search needs) (λ c. search needs) returns
     returns-2)

@@ -8,9 +8,6 @@ use Rattle.run.proofs.spoken.Tie as tie
 returns : tie.Need-returns
 returns c = rw (c .if1 .taken, and-false)
 
-has-requires : tie.Need-has-requires
-has-requires c κs = search needs
-
 returns-2 : tie.Need-returns-2
 returns-2 c =
     let d = c .before .before in
@@ -25,4 +22,9 @@ returns-4 : tie.Need-returns-4
 returns-4 c = rw (sym (c .before .has .ensures) ∙ c .if2 .left)
 
 pub spoken-spec : {M : Type 1} → statement M
-spoken-spec = tie.close (tie.spec returns has-requires returns-2 returns-3 returns-4)
+spoken-spec = tie.close
+    (tie.spec
+    returns
+    (λ c κs. search needs) returns-2
+    returns-3
+    returns-4)

@@ -81,28 +81,10 @@ kept c =
     let l = j .before .before in
     going-length (l .loop .inv .0) (start l .pre) (j .before .loop-test .taken) (whole j) (heard e) (promise c) ∙ l .loop .inv .1
 
-zero-requires : tie.Need-zero-requires Inv-loop μ-loop
-zero-requires c κs = search needs
-
-fresh-requires : tie.Need-fresh-requires Inv-loop μ-loop
-fresh-requires c κs = search needs
-
-none-gathered-requires : tie.Need-none-gathered-requires Inv-loop μ-loop
-none-gathered-requires c κs = search needs
-
 loop-holds : tie.Need-loop-holds Inv-loop μ-loop
 loop-holds c = let a = c .before .before .before .before .before .before in
     let e = fresh-given (a .args .t1) (a .pre) _ (c .before .before .fresh .ensures) in
     (rw (e, c .none-gathered .ensures) (going-start (a .args .t1) (a .args .trail .now)), refl)
-
-mul-mark : tie.Need-mul-mark Inv-loop μ-loop
-mul-mark c = search needs
-
-element-copy-out-mark : tie.Need-element-copy-out-mark Inv-loop μ-loop
-element-copy-out-mark c = search needs
-
-cast-if2 : tie.Need-cast-if2 Inv-loop μ-loop
-cast-if2 c = search needs
 
 with-mark-requires : tie.Need-with-mark-requires Inv-loop μ-loop
 with-mark-requires c κs = let l = c .before .before .before .before .before in
@@ -119,12 +101,6 @@ loop-again c = let l = c .before .before .before .before .before .before in
     let q = c .before .if2 .taken in
     (rw (c .with-mark .ensures) (going-mark (l .loop .inv .0) (a .pre) (c .before .before .before .before .if1 .taken) q), l .loop .inv .1)
 
-rem-owner : tie.Need-rem-owner Inv-loop μ-loop
-rem-owner c = search needs
-
-given-by-requires : tie.Need-given-by-requires Inv-loop μ-loop
-given-by-requires c κs = search needs
-
 mul-spoken : tie.Need-mul-spoken Inv-loop μ-loop
 mul-spoken c = omega (arith, owner-low (c .before))
 
@@ -133,18 +109,6 @@ element-copy-out-spoken c = owner-low (c .before)
 
 element-copy-out-spoken-2 : tie.Need-element-copy-out-spoken-2 Inv-loop μ-loop
 element-copy-out-spoken-2 c = owner-low (c .before .before)
-
-spoken-requires : tie.Need-spoken-requires Inv-loop μ-loop
-spoken-requires c κs = search needs
-
-element-copy-out-if3 : tie.Need-element-copy-out-if3 Inv-loop μ-loop
-element-copy-out-if3 c = search needs
-
-cast-t36 : tie.Need-cast-t36 Inv-loop μ-loop
-cast-t36 c = search needs
-
-judged-requires : tie.Need-judged-requires Inv-loop μ-loop
-judged-requires c κs = search needs
 
 same-length : tie.Need-same-length Inv-loop μ-loop
 same-length c = c .before .before .before .before .before .before .before .before .before .loop .inv .1
@@ -158,18 +122,6 @@ returns c = let p = c .before .before .before in
     (going-differs (l .loop .inv .0) (a .pre) (j .before .loop-test .taken) (whole j)
     (λ e. c .before .if3 .taken (said p ∙ e)))
 
-step-requires : tie.Need-step-requires Inv-loop μ-loop
-step-requires c κs = search needs
-
-enum-known-answer : tie.Need-enum-known-answer Inv-loop μ-loop
-enum-known-answer c = search needs
-
-cast-refused : tie.Need-cast-refused Inv-loop μ-loop
-cast-refused c = search needs
-
-refused-requires : tie.Need-refused-requires Inv-loop μ-loop
-refused-requires c κs = search needs
-
 same-length-2 : tie.Need-same-length-2 Inv-loop μ-loop
 same-length-2 c = kept (c .before .before .before .before .before .before .before)
 
@@ -181,12 +133,6 @@ returns-2 c = let p = c .before .before .before .before .before .before .before 
     let a = start l in
     leaves (a .args .t1) (p .step .result .ring) (p .step .last .1 .1 .1 .0) _ _ (c .refused .ensures)
     (going-stops (l .loop .inv .0) (a .pre) (j .before .loop-test .taken) (whole j) (heard e) (promise p) (ap told (c .before .before .answer .given .1)))
-
-enum-told : tie.Need-enum-told Inv-loop μ-loop
-enum-told c = search needs
-
-slot-over-requires : tie.Need-slot-over-requires Inv-loop μ-loop
-slot-over-requires c κs = search needs
 
 add-at : tie.Need-add-at Inv-loop μ-loop
 add-at c = omega (arith, c .before .before .before .before .before .before .before .before .before .before .before .before .before .before .before .loop-test .taken, start (c .before .before .before .before .before .before .before .before .before .before .before .before .before .before .before .before) .pre .slotted)
@@ -202,9 +148,6 @@ loop-again-2 c = let p = c .before .before .before .before .before .before in
     let a = start l in
     (rw (c .slot-over .ensures) (going-on (l .loop .inv .0) (a .pre) (j .before .loop-test .taken) (whole j) (heard e) (promise p) (ap told (c .before .enum-told .given .1))), kept p)
 
-judged-requires-2 : tie.Need-judged-requires-2 Inv-loop μ-loop
-judged-requires-2 c κs = search needs
-
 same-length-3 : tie.Need-same-length-3 Inv-loop μ-loop
 same-length-3 c = c .before .before .loop .inv .1
 
@@ -218,40 +161,19 @@ pub through-spec : {M : Type 1} → statement M
 through-spec =
     tie.close
     (tie.spec
-    Inv-loop
-    μ-loop
-    zero-requires
-    fresh-requires
-    none-gathered-requires
-    loop-holds
-    mul-mark
-    element-copy-out-mark
-    cast-if2
-    with-mark-requires
+    Inv-loop μ-loop (λ c κs. search needs) (λ c κs. search needs) (λ c κs. search needs) loop-holds
+    (λ c. search needs) (λ c. search needs) (λ c. search needs) with-mark-requires
     loop-less
     loop-again
-    rem-owner
-    given-by-requires
-    mul-spoken
+    (λ c. search needs) (λ c κs. search needs) mul-spoken
     element-copy-out-spoken
     element-copy-out-spoken-2
-    spoken-requires
-    element-copy-out-if3
-    cast-t36
-    judged-requires
-    same-length
+    (λ c κs. search needs) (λ c. search needs) (λ c. search needs) (λ c κs. search needs) same-length
     returns
-    step-requires
-    enum-known-answer
-    cast-refused
-    refused-requires
-    same-length-2
+    (λ c κs. search needs) (λ c. search needs) (λ c. search needs) (λ c κs. search needs) same-length-2
     returns-2
-    enum-told
-    slot-over-requires
-    add-at
+    (λ c. search needs) (λ c κs. search needs) add-at
     loop-less-2
     loop-again-2
-    judged-requires-2
-    same-length-3
+    (λ c κs. search needs) same-length-3
     returns-3)

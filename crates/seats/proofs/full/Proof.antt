@@ -9,12 +9,6 @@ use Rattle.seats.proofs.Sets.{full-is}
 use Rattle.seats.proofs.full.Statement.{statement}
 use Rattle.seats.proofs.full.Tie as tie
 
-cast-result : tie.Need-cast-result
-cast-result c = search needs
-
-shl-result : tie.Need-shl-result
-shl-result c = search needs
-
 sub-result : tie.Need-sub-result
 sub-result c = let n = c .before .args .n in omega (arith, one-shifted n (c .if1 .taken), pow-pos n)
 
@@ -27,4 +21,8 @@ returns-2 : tie.Need-returns-2
 returns-2 c = let e : 32 ≡ min (c .before .args .n) 32 = omega arith in ap (λ (x : ℕ). 2 ^ x - 1) e
 
 pub full-spec : {M : Type 1} → statement M
-full-spec = tie.close (tie.spec cast-result shl-result sub-result returns returns-2)
+full-spec = tie.close
+    (tie.spec
+    (λ c. search needs) (λ c. search needs) sub-result
+    returns
+    returns-2)

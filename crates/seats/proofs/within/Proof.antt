@@ -8,9 +8,6 @@ use Rattle.seats.proofs.Machine.{within-is}
 use Rattle.seats.proofs.within.Statement.{statement}
 use Rattle.seats.proofs.within.Tie as tie
 
-shr-result : tie.Need-shr-result
-shr-result c = search needs
-
 returns : tie.Need-returns
 returns c = let a = c .before .args in within-is (a .set) (a .n) (search needs)
 
@@ -18,4 +15,7 @@ returns-2 : tie.Need-returns-2
 returns-2 c = let a = c .before .args in let e : min (a .n) 32 ≡ 32 = omega arith in sym (rw e (le-leb (a .set) 4294967295 (search needs)))
 
 pub within-spec : {M : Type 1} → statement M
-within-spec = tie.close (tie.spec shr-result returns returns-2)
+within-spec = tie.close
+    (tie.spec
+    (λ c. search needs) returns
+    returns-2)

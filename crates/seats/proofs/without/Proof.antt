@@ -8,12 +8,6 @@ use Rattle.seats.proofs.Sets.{none-past, without-none}
 use Rattle.seats.proofs.without.Statement.{statement}
 use Rattle.seats.proofs.without.Tie as tie
 
-cast-result : tie.Need-cast-result
-cast-result c = search needs
-
-shl-result : tie.Need-shl-result
-shl-result c = search needs
-
 returns : tie.Need-returns
 returns c =
     let a = c .before .args in
@@ -26,4 +20,7 @@ returns-2 c =
     sym (without-none (a .set) (a .j) (none-past (a .set) 32 (a .j) (search needs) (c .if1 .left)))
 
 pub without-spec : {M : Type 1} → statement M
-without-spec = tie.close (tie.spec cast-result shl-result returns returns-2)
+without-spec = tie.close
+    (tie.spec
+    (λ c. search needs) (λ c. search needs) returns
+    returns-2)

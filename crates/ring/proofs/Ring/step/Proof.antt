@@ -82,23 +82,11 @@ stands c =
     all-checked (a .self) (a .send) (a .receive) (length (a .trail .now)) (is-ring g) (marks e) (ne-eqb (a .self .time) 4096 (d .before .if3 .left))
     (le-leb (a .self .records + countIn (a .self) (slotOf (a .self) (a .send) (a .receive))) (roomFor (length (a .trail .now))) (omega (arith, c .if4 .left, drawn-count d, room-is g)))
 
-room-for-requires : tie.Need-room-for-requires
-room-for-requires c κs = search needs
-
-is-ring-requires : tie.Need-is-ring-requires
-is-ring-requires c κs = search needs
-
-refused-requires : tie.Need-refused-requires
-refused-requires c κs = search needs
-
 returns : tie.Need-returns
 returns c = let r = c .before .before in
     let a = r .before .before .before .args in
     rw (c .refused .ensures)
     (refuse (a .self) (a .send) (a .receive) (a .trail .now) (Refused NotARing 0) 10 0 refl (no-ring (a .self) (a .send) (a .receive) (length (a .trail .now)) (sym (told-ring r) ∙ not-true _ (c .before .if1 .taken))))
-
-cast-owner : tie.Need-cast-owner
-cast-owner c = search needs
 
 rem-owner : tie.Need-rem-owner
 rem-owner c = omega (arith, parts c .least)
@@ -112,15 +100,6 @@ array-read-set c = owner-is (c .before)
 array-read-ack : tie.Need-array-read-ack
 array-read-ack c = owner-is (c .before .before)
 
-slot-for-requires : tie.Need-slot-for-requires
-slot-for-requires c κs = search needs
-
-marks-stand-requires : tie.Need-marks-stand-requires
-marks-stand-requires c κs = search needs
-
-refused-requires-2 : tie.Need-refused-requires-2
-refused-requires-2 c κs = search needs
-
 returns-2 : tie.Need-returns-2
 returns-2 c = let m = c .before .before in
     let g = m .before .before .before .before in
@@ -128,9 +107,6 @@ returns-2 c = let m = c .before .before in
     rw (c .refused2 .ensures)
     (refuse (a .self) (a .send) (a .receive) (a .trail .now) (Refused WrongMark (a .self .time)) 6 (a .self .time) refl
     (wrong-mark (a .self) (a .send) (a .receive) (length (a .trail .now)) (is-ring g) (sym (told-marks m) ∙ not-true _ (c .before .if2 .taken))))
-
-refused-requires-3 : tie.Need-refused-requires-3
-refused-requires-3 c κs = search needs
 
 returns-3 : tie.Need-returns-3
 returns-3 c = let e = c .before .before in
@@ -143,18 +119,12 @@ returns-3 c = let e = c .before .before in
 draw-requires : tie.Need-draw-requires
 draw-requires c κs = drawable c
 
-cast-records : tie.Need-cast-records
-cast-records c = search needs
-
 add-total : tie.Need-add-total
 add-total c = let d = c .before .before in
     let g = d .before .before .before .before .before .before .before in
     let a = g .before .before .before .before .args in
     let p = parts g in
     omega (arith, p .kept, p .most, drawn-count d, counts-few (a .self) (slotOf (a .self) (a .send) (a .receive)) (a .self .n))
-
-refused-requires-4 : tie.Need-refused-requires-4
-refused-requires-4 c κs = search needs
 
 returns-4 : tie.Need-returns-4
 returns-4 c = let d = c .before .before .before .before in
@@ -169,12 +139,6 @@ returns-4 c = let d = c .before .before .before .before in
 add-next : tie.Need-add-next
 add-next c = let d = c .before .before .before .before in
     omega (arith, parts (d .before .before .before .before .before .before .before) .soon)
-
-cast-next : tie.Need-cast-next
-cast-next c = search needs
-
-taken-requires : tie.Need-taken-requires
-taken-requires c κs = search needs
 
 returns-5 : tie.Need-returns-5
 returns-5 c = let f = c .before .before .before .before in
@@ -192,12 +156,6 @@ write-requires c κs = let f = c .before .before .before .before in
     let g = e .before .before .before .before .before in
     (drawable (d .before), omega (arith, f .if4 .left, room-is g, ap (λ (x : Drawn). x .count) (d .draw .ensures)))
 
-taken-requires-2 : tie.Need-taken-requires-2
-taken-requires-2 c κs = search needs
-
-same-length : tie.Need-same-length
-same-length c = search needs
-
 returns-6 : tie.Need-returns-6
 returns-6 c = let w = c .before .before .before in
     let f = w .before .before .before .before .before in
@@ -213,31 +171,17 @@ pub step-spec : {M : Type 1} → statement M
 step-spec =
     tie.close
     (tie.spec
-    room-for-requires
-    is-ring-requires
-    refused-requires
-    returns
-    cast-owner
-    rem-owner
+    (λ c κs. search needs) (λ c κs. search needs) (λ c κs. search needs) returns
+    (λ c. search needs) rem-owner
     mul-set
     array-read-set
     array-read-ack
-    slot-for-requires
-    marks-stand-requires
-    refused-requires-2
-    returns-2
-    refused-requires-3
-    returns-3
+    (λ c κs. search needs) (λ c κs. search needs) (λ c κs. search needs) returns-2
+    (λ c κs. search needs) returns-3
     draw-requires
-    cast-records
-    add-total
-    refused-requires-4
-    returns-4
+    (λ c. search needs) add-total
+    (λ c κs. search needs) returns-4
     add-next
-    cast-next
-    taken-requires
-    returns-5
+    (λ c. search needs) (λ c κs. search needs) returns-5
     write-requires
-    taken-requires-2
-    same-length
-    returns-6)
+    (λ c κs. search needs) (λ c. search needs) returns-6)

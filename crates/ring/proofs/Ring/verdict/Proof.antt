@@ -15,9 +15,6 @@ use Rattle.ring.proofs.Ring.verdict.Tie as tie
 is-ring : (c : tie.Else1) → isRing (c .before .before .args .self) 1024 ≡ true
 is-ring c = sym (c .before .is-ring .ensures) ∙ not-false _ (c .if1 .left)
 
-is-ring-requires : tie.Need-is-ring-requires
-is-ring-requires c κs = search needs
-
 returns : tie.Need-returns
 returns c = record { verdict = sym (no-verdict _ (sym (c .before .is-ring .ensures) ∙ not-true _ (c .if1 .taken))); ring = refl }
 
@@ -29,9 +26,6 @@ returns-2 c = let g = c .before .before .before in
     let r = g .before .before .args .self in
     record { verdict = sym (terms-within r (is-ring g) (sym (c .before .first-failing .ensures) ∙ c .if2 .taken)); ring = refl }
 
-sub-t9 : tie.Need-sub-t9
-sub-t9 c = search needs
-
 returns-3 : tie.Need-returns-3
 returns-3 c = let g = c .before .before .before in
     let r = g .before .before .args .self in
@@ -41,4 +35,9 @@ returns-3 c = let g = c .before .before .before in
 
 pub verdict-spec : {M : Type 1} → statement M
 verdict-spec =
-    tie.close (tie.spec is-ring-requires returns first-failing-requires returns-2 sub-t9 returns-3)
+    tie.close
+    (tie.spec
+    (λ c κs. search needs) returns
+    first-failing-requires
+    returns-2
+    (λ c. search needs) returns-3)

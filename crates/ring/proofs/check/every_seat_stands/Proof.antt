@@ -28,37 +28,10 @@ seen c =
 loop-holds : tie.Need-loop-holds Inv-loop μ-loop
 loop-holds c = (search needs, refl)
 
-mul-set : tie.Need-mul-set Inv-loop μ-loop
-mul-set c = search needs
-
-element-copy-out-set : tie.Need-element-copy-out-set Inv-loop μ-loop
-element-copy-out-set c = search needs
-
-element-copy-out-ack : tie.Need-element-copy-out-ack Inv-loop μ-loop
-element-copy-out-ack c = search needs
-
-element-copy-out-doubt : tie.Need-element-copy-out-doubt Inv-loop μ-loop
-element-copy-out-doubt c = search needs
-
-mul-fault : tie.Need-mul-fault Inv-loop μ-loop
-mul-fault c = search needs
-
-element-copy-out-fault : tie.Need-element-copy-out-fault Inv-loop μ-loop
-element-copy-out-fault c = search needs
-
-seat-stands-requires : tie.Need-seat-stands-requires Inv-loop μ-loop
-seat-stands-requires c κs = search needs
-
 returns : tie.Need-returns Inv-loop μ-loop
 unfolding everySeatStands
 returns c = let at = c .before .before .before .before .before .before .before in
     sym (all-fails (stands (at .before .args .t1)) 32 (at .loop .p) (c .before .before .before .before .before .before .loop-test .taken) (sym (seen (c .before)) ∙ not-true _ (c .if1 .taken)))
-
-add-p : tie.Need-add-p Inv-loop μ-loop
-add-p c = search needs
-
-loop-less : tie.Need-loop-less Inv-loop μ-loop
-loop-less c = search needs
 
 loop-again : tie.Need-loop-again Inv-loop μ-loop
 loop-again c = let at = c .before .before .before .before .before .before .before in
@@ -74,18 +47,8 @@ pub every-seat-stands-spec : {M : Type 1} → statement M
 every-seat-stands-spec =
     tie.close
     (tie.spec
-    Inv-loop
-    μ-loop
-    loop-holds
-    mul-set
-    element-copy-out-set
-    element-copy-out-ack
-    element-copy-out-doubt
-    mul-fault
-    element-copy-out-fault
-    seat-stands-requires
-    returns
-    add-p
-    loop-less
-    loop-again
+    Inv-loop μ-loop loop-holds
+    (λ c. search needs) (λ c. search needs) (λ c. search needs) (λ c. search needs) (λ c. search needs) (λ c. search needs)
+    (λ c κs. search needs) returns
+    (λ c. search needs) (λ c. search needs) loop-again
     returns-2)

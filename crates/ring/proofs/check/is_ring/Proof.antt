@@ -18,17 +18,11 @@ unfolding isRing
 returns-3 c = let d = c .before .before in
     rw (le-leb 2 _ (d .before .before .if1 .left), le-leb _ 32 (d .if2 .left), lt-leb _ 4096 (c .if3 .taken))
 
-cast-if4 : tie.Need-cast-if4
-cast-if4 c = search needs
-
 returns-4 : tie.Need-returns-4
 unfolding isRing
 returns-4 c = let d = c .before .before in
     let e = d .before .before in
     rw (le-leb 2 _ (e .before .before .if1 .left), le-leb _ 32 (e .if2 .left), le-leb _ 4096 (d .if3 .left), lt-leb _ _ (c .if4 .taken))
-
-every-seat-stands-requires : tie.Need-every-seat-stands-requires
-every-seat-stands-requires c κs = search needs
 
 returns-5 : tie.Need-returns-5
 unfolding isRing
@@ -39,4 +33,9 @@ returns-5 c = let d = c .before .before .before in
 pub is-ring-spec : {M : Type 1} → statement M
 is-ring-spec =
     tie.close
-    (tie.spec returns returns-2 returns-3 cast-if4 returns-4 every-seat-stands-requires returns-5)
+    (tie.spec
+    returns
+    returns-2
+    returns-3
+    (λ c. search needs) returns-4
+    (λ c κs. search needs) returns-5)

@@ -4,12 +4,6 @@ use mathlib.Core.Path.{sym, _∙_}
 use Rattle.ring.proofs.check.marks_stand.Statement.{statement}
 use Rattle.ring.proofs.check.marks_stand.Tie as tie
 
-within-requires : tie.Need-within-requires
-within-requires c κs = search needs
-
-has-requires : tie.Need-has-requires
-has-requires c κs = search needs
-
 returns : tie.Need-returns
 returns c = rw (sym (c .before .before .within .ensures) ∙ c .before .if1 .taken, c .has .ensures)
 
@@ -17,4 +11,7 @@ returns-2 : tie.Need-returns-2
 returns-2 c = rw (sym (c .before .within .ensures) ∙ c .if1 .left)
 
 pub marks-stand-spec : {M : Type 1} → statement M
-marks-stand-spec = tie.close (tie.spec within-requires has-requires returns returns-2)
+marks-stand-spec = tie.close
+    (tie.spec
+    (λ c κs. search needs) (λ c κs. search needs) returns
+    returns-2)

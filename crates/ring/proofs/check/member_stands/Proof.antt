@@ -4,9 +4,6 @@ use mathlib.Core.Path.{sym, _∙_}
 use Rattle.ring.proofs.check.member_stands.Statement.{statement}
 use Rattle.ring.proofs.check.member_stands.Tie as tie
 
-within-requires : tie.Need-within-requires
-within-requires c κs = search needs
-
 returns : tie.Need-returns
 returns c = rw (sym (c .before .before .within .ensures) ∙ c .before .if1 .taken)
 
@@ -14,4 +11,7 @@ returns-2 : tie.Need-returns-2
 returns-2 c = rw (sym (c .before .within .ensures) ∙ c .if1 .left)
 
 pub member-stands-spec : {M : Type 1} → statement M
-member-stands-spec = tie.close (tie.spec within-requires returns returns-2)
+member-stands-spec = tie.close
+    (tie.spec
+    (λ c κs. search needs) returns
+    returns-2)

@@ -4,17 +4,15 @@ use borrow.Author.Tests.{eq-eqb, ne-eqb}
 use Rattle.ring.proofs.slot.fault_after.Statement.{statement}
 use Rattle.ring.proofs.slot.fault_after.Tie as tie
 
-add-result : tie.Need-add-result
-add-result c = search needs
-
 returns : tie.Need-returns
 returns c = rw (c .before .if1 .taken, eq-eqb _ _ (c .if2 .taken))
 
 returns-2 : tie.Need-returns-2
 returns-2 c = rw (c .before .if1 .taken, ne-eqb _ _ (c .if2 .left))
 
-returns-3 : tie.Need-returns-3
-returns-3 c = search needs
-
 pub fault-after-spec : {M : Type 1} → statement M
-fault-after-spec = tie.close (tie.spec add-result returns returns-2 returns-3)
+fault-after-spec = tie.close
+    (tie.spec
+    (λ c. search needs) returns
+    returns-2
+    (λ c. search needs))

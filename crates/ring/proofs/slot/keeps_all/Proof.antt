@@ -9,17 +9,15 @@ use Rattle.ring.proofs.slot.keeps_all.Tie as tie
 returns : tie.Need-returns
 returns c = rw (eq-eqb _ _ (c .if1 .taken))
 
-undisturbed-requires : tie.Need-undisturbed-requires
-undisturbed-requires c κs = search needs
-
 returns-2 : tie.Need-returns-2
 returns-2 c = rw (ne-eqb _ _ (c .before .before .if1 .left), sym (c .before .undisturbed .ensures) ∙ c .if2 .taken)
-
-has-requires : tie.Need-has-requires
-has-requires c κs = search needs
 
 returns-3 : tie.Need-returns-3
 returns-3 c = rw (ne-eqb _ _ (c .before .before .before .if1 .left), sym (c .before .before .undisturbed .ensures) ∙ c .before .if2 .left) (ap not (c .has .ensures))
 
 pub keeps-all-spec : {M : Type 1} → statement M
-keeps-all-spec = tie.close (tie.spec returns undisturbed-requires returns-2 has-requires returns-3)
+keeps-all-spec = tie.close
+    (tie.spec
+    returns
+    (λ c κs. search needs) returns-2
+    (λ c κs. search needs) returns-3)

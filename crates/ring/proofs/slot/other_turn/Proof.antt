@@ -8,21 +8,6 @@ use Rattle.ring.specs.declared.slot.Turn.{Turn}
 use Rattle.ring.proofs.slot.other_turn.Statement.{statement}
 use Rattle.ring.proofs.slot.other_turn.Tie as tie
 
-view-of-requires : tie.Need-view-of-requires
-view-of-requires c κs = search needs
-
-decide-requires : tie.Need-decide-requires
-decide-requires c κs = search needs
-
-after-removal-requires : tie.Need-after-removal-requires
-after-removal-requires c κs = search needs
-
-missed-requires : tie.Need-missed-requires
-missed-requires c κs = search needs
-
-fault-after-requires : tie.Need-fault-after-requires
-fault-after-requires c κs = search needs
-
 returns : tie.Need-returns
 returns c = let d = c .before .before .before in
     let a = d .before .before .args in
@@ -33,9 +18,4 @@ pub other-turn-spec : {M : Type 1} → statement M
 other-turn-spec =
     tie.close
     (tie.spec
-    view-of-requires
-    decide-requires
-    after-removal-requires
-    missed-requires
-    fault-after-requires
-    returns)
+    (λ c κs. search needs) (λ c κs. search needs) (λ c κs. search needs) (λ c κs. search needs) (λ c κs. search needs) returns)

@@ -3,11 +3,8 @@ use borrow.Author.Needs.{needs}
 use Rattle.ring.proofs.slot.owner_turn.Statement.{statement}
 use Rattle.ring.proofs.slot.owner_turn.Tie as tie
 
-fault-after-requires : tie.Need-fault-after-requires
-fault-after-requires c κs = search needs
-
 returns : tie.Need-returns
 returns c = rw (c .before .fault-after .ensures)
 
 pub owner-turn-spec : {M : Type 1} → statement M
-owner-turn-spec = tie.close (tie.spec fault-after-requires returns)
+owner-turn-spec = tie.close (tie.spec (λ c κs. search needs) returns)

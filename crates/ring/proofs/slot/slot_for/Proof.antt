@@ -3,11 +3,8 @@ use borrow.Author.Needs.{needs}
 use Rattle.ring.proofs.slot.slot_for.Statement.{statement}
 use Rattle.ring.proofs.slot.slot_for.Tie as tie
 
-speaks-in-requires : tie.Need-speaks-in-requires
-speaks-in-requires c κs = search needs
-
 returns : tie.Need-returns
 returns c = rw (c .speaks-in .ensures)
 
 pub slot-for-spec : {M : Type 1} → statement M
-slot-for-spec = tie.close (tie.spec speaks-in-requires returns)
+slot-for-spec = tie.close (tie.spec (λ c κs. search needs) returns)

@@ -7,25 +7,13 @@ use Rattle.ring.specs.Step.{turnOf}
 use Rattle.ring.proofs.slot.turn_of.Statement.{statement}
 use Rattle.ring.proofs.slot.turn_of.Tie as tie
 
-has-requires : tie.Need-has-requires
-has-requires c κs = search needs
-
 returns : tie.Need-returns
 unfolding turnOf
 returns c = rw (sym (c .before .has .ensures) ∙ not-true _ (c .if1 .taken))
 
-owner-turn-requires : tie.Need-owner-turn-requires
-owner-turn-requires c κs = search needs
-
 returns-2 : tie.Need-returns-2
 unfolding turnOf
 returns-2 c = rw (sym (c .before .before .before .before .has .ensures) ∙ not-false _ (c .before .before .before .if1 .left), eq-eqb _ _ (c .before .if2 .taken)) (c .owner-turn .ensures)
-
-has-requires-2 : tie.Need-has-requires-2
-has-requires-2 c κs = search needs
-
-other-turn-requires : tie.Need-other-turn-requires
-other-turn-requires c κs = search needs
 
 returns-3 : tie.Need-returns-3
 unfolding turnOf
@@ -39,11 +27,7 @@ pub turn-of-spec : {M : Type 1} → statement M
 turn-of-spec =
     tie.close
     (tie.spec
-    has-requires
-    returns
-    owner-turn-requires
-    returns-2
-    has-requires-2
-    other-turn-requires
-    returns-3
+    (λ c κs. search needs) returns
+    (λ c κs. search needs) returns-2
+    (λ c κs. search needs) (λ c κs. search needs) returns-3
     returns-4)

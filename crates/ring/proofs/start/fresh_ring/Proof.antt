@@ -15,29 +15,8 @@ Inv-loop n full ring₀ p₀ ring p = (p ≤ n) × (ring ≡ begun n p)
 abbrev μ-loop : tie.MeasureT-loop
 μ-loop n full ring₀ p₀ ring p = n - p
 
-full-requires : tie.Need-full-requires Inv-loop μ-loop
-full-requires c κs = search needs
-
-zero-ring-requires : tie.Need-zero-ring-requires Inv-loop μ-loop
-zero-ring-requires c κs = search needs
-
 loop-holds : tie.Need-loop-holds Inv-loop μ-loop
 loop-holds c = (search needs, ap (λ (r : Ring). withCounts r (c .before .before .args .n) (r .time) (r .records)) (c .zero-ring .ensures) ∙ begun-none (c .before .before .args .n))
-
-mul-ring : tie.Need-mul-ring Inv-loop μ-loop
-mul-ring c = search needs
-
-element-write-ring : tie.Need-element-write-ring Inv-loop μ-loop
-element-write-ring c = search needs
-
-element-write-ring-2 : tie.Need-element-write-ring-2 Inv-loop μ-loop
-element-write-ring-2 c = search needs
-
-add-p : tie.Need-add-p Inv-loop μ-loop
-add-p c = search needs
-
-loop-less : tie.Need-loop-less Inv-loop μ-loop
-loop-less c = search needs
 
 loop-again : tie.Need-loop-again Inv-loop μ-loop
 loop-again c = let at = c .before in
@@ -61,15 +40,6 @@ pub fresh-ring-spec : {M : Type 1} → statement M
 fresh-ring-spec =
     tie.close
     (tie.spec
-    Inv-loop
-    μ-loop
-    full-requires
-    zero-ring-requires
-    loop-holds
-    mul-ring
-    element-write-ring
-    element-write-ring-2
-    add-p
-    loop-less
-    loop-again
+    Inv-loop μ-loop (λ c κs. search needs) (λ c κs. search needs) loop-holds
+    (λ c. search needs) (λ c. search needs) (λ c. search needs) (λ c. search needs) (λ c. search needs) loop-again
     returns)

@@ -6,30 +6,6 @@ use Prim.Native.Nat.{ℕ}
 use Rattle.ring.proofs.table.after_removal.Statement.{statement}
 use Rattle.ring.proofs.table.after_removal.Tie as tie
 
-enum-told : tie.Need-enum-told
-enum-told c = search needs
-
-enum-told-2 : tie.Need-enum-told-2
-enum-told-2 c = search needs
-
-without-requires : tie.Need-without-requires
-without-requires c κs = search needs
-
-enum-told-3 : tie.Need-enum-told-3
-enum-told-3 c = search needs
-
-without-requires-2 : tie.Need-without-requires-2
-without-requires-2 c κs = search needs
-
-enum-told-4 : tie.Need-enum-told-4
-enum-told-4 c = search needs
-
-without-requires-3 : tie.Need-without-requires-3
-without-requires-3 c κs = search needs
-
-without-requires-4 : tie.Need-without-requires-4
-without-requires-4 c κs = search needs
-
 returns : tie.Need-returns
 returns c = rw (c .enum-told .given .1)
 
@@ -47,15 +23,8 @@ pub after-removal-spec : {M : Type 1} → statement M
 after-removal-spec =
     tie.close
     (tie.spec
-    enum-told
-    enum-told-2
-    without-requires
-    enum-told-3
-    without-requires-2
-    enum-told-4
-    without-requires-3
-    without-requires-4
-    returns
+    (λ c. search needs) (λ c. search needs) (λ c κs. search needs) (λ c. search needs) (λ c κs. search needs) (λ c. search needs)
+    (λ c κs. search needs) (λ c κs. search needs) returns
     returns-2
     returns-3
     returns-4)

@@ -4,24 +4,6 @@ use mathlib.Core.Path.{_∙_}
 use Rattle.ring.proofs.table.decide.Statement.{statement}
 use Rattle.ring.proofs.table.decide.Tie as tie
 
-enum-told : tie.Need-enum-told
-enum-told c = search needs
-
-row-requires : tie.Need-row-requires
-row-requires c κs = search needs
-
-enum-told-2 : tie.Need-enum-told-2
-enum-told-2 c = search needs
-
-row-requires-2 : tie.Need-row-requires-2
-row-requires-2 c κs = search needs
-
-enum-known-view : tie.Need-enum-known-view
-enum-known-view c = search needs
-
-row-requires-3 : tie.Need-row-requires-3
-row-requires-3 c κs = search needs
-
 returns : tie.Need-returns
 returns c = c .row .ensures ∙ rw (c .before .enum-told .given .1)
 
@@ -35,12 +17,6 @@ pub decide-spec : {M : Type 1} → statement M
 decide-spec =
     tie.close
     (tie.spec
-    enum-told
-    row-requires
-    enum-told-2
-    row-requires-2
-    enum-known-view
-    row-requires-3
-    returns
+    (λ c. search needs) (λ c κs. search needs) (λ c. search needs) (λ c κs. search needs) (λ c. search needs) (λ c κs. search needs) returns
     returns-2
     returns-3)

@@ -18,15 +18,9 @@ returns c = rw (not-true (c .before .before .args .arrived) (c .before .if1 .tak
 returns-2 : tie.Need-returns-2
 returns-2 c = rw (not-true (c .before .before .args .arrived) (c .before .if1 .taken), c .if2 .left)
 
-spoke-true-requires : tie.Need-spoke-true-requires
-spoke-true-requires c κs = search needs
-
 returns-3 : tie.Need-returns-3
 returns-3 c = let a = c .before .before .before .args in
     rw (not-false (a .arrived) (c .before .before .if1 .left), c .before .if3 .taken) (c .spoke-true .ensures ∙ ap (decisionBy (a .view)) (no-doubt (a .ack) (a .doubt)))
-
-spoke-false-requires : tie.Need-spoke-false-requires
-spoke-false-requires c κs = search needs
 
 returns-4 : tie.Need-returns-4
 returns-4 c = rw (not-false (c .before .before .before .args .arrived) (c .before .before .if1 .left), c .before .if3 .left) (c .spoke-false .ensures)
@@ -34,4 +28,8 @@ returns-4 c = rw (not-false (c .before .before .before .args .arrived) (c .befor
 pub row-spec : {M : Type 1} → statement M
 row-spec =
     tie.close
-    (tie.spec returns returns-2 spoke-true-requires returns-3 spoke-false-requires returns-4)
+    (tie.spec
+    returns
+    returns-2
+    (λ c κs. search needs) returns-3
+    (λ c κs. search needs) returns-4)

@@ -5,17 +5,8 @@ use borrow.Author.Tests.{eq-eqb, ne-eqb}
 use Rattle.ring.proofs.terms.failing_at.Statement.{statement}
 use Rattle.ring.proofs.terms.failing_at.Tie as tie
 
-mul-f : tie.Need-mul-f
-mul-f c = search needs
-
-array-read-f : tie.Need-array-read-f
-array-read-f c = search needs
-
 returns : tie.Need-returns
 returns c = rw (eq-eqb _ _ (c .if1 .taken))
-
-holds-with-requires : tie.Need-holds-with-requires
-holds-with-requires c κs = search needs
 
 returns-2 : tie.Need-returns-2
 returns-2 c = rw (ne-eqb _ _ (c .before .before .if1 .left), sym (c .before .holds-with .ensures) ∙ c .if2 .taken)
@@ -25,4 +16,8 @@ returns-3 c = rw (ne-eqb _ _ (c .before .before .if1 .left), sym (c .before .hol
 
 pub failing-at-spec : {M : Type 1} → statement M
 failing-at-spec =
-    tie.close (tie.spec mul-f array-read-f returns holds-with-requires returns-2 returns-3)
+    tie.close
+    (tie.spec
+    (λ c. search needs) (λ c. search needs) returns
+    (λ c κs. search needs) returns-2
+    returns-3)

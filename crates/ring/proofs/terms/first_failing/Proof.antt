@@ -17,18 +17,6 @@ abbrev μ-loop : tie.MeasureT-loop
 loop-holds : tie.Need-loop-holds Inv-loop μ-loop
 loop-holds c = (search needs, refl)
 
-failing-at-requires : tie.Need-failing-at-requires Inv-loop μ-loop
-failing-at-requires c κs = search needs
-
-earlier-of-requires : tie.Need-earlier-of-requires Inv-loop μ-loop
-earlier-of-requires c κs = search needs
-
-add-p : tie.Need-add-p Inv-loop μ-loop
-add-p c = search needs
-
-loop-less : tie.Need-loop-less Inv-loop μ-loop
-loop-less c = search needs
-
 loop-again : tie.Need-loop-again Inv-loop μ-loop
 loop-again c = let at = c .before .before .before in
     let a = at .before .args in
@@ -51,12 +39,6 @@ pub first-failing-spec : {M : Type 1} → statement M
 first-failing-spec =
     tie.close
     (tie.spec
-    Inv-loop
-    μ-loop
-    loop-holds
-    failing-at-requires
-    earlier-of-requires
-    add-p
-    loop-less
-    loop-again
+    Inv-loop μ-loop loop-holds
+    (λ c κs. search needs) (λ c κs. search needs) (λ c. search needs) (λ c. search needs) loop-again
     returns)

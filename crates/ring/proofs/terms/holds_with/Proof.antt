@@ -29,23 +29,8 @@ one-at-most : (b : Bool) → cond b 1 0 ≤ 1
 one-at-most true = omega arith
 one-at-most false = omega arith
 
-mul-f : tie.Need-mul-f Inv-loop μ-loop
-mul-f c = search needs
-
-array-read-f : tie.Need-array-read-f Inv-loop μ-loop
-array-read-f c = search needs
-
 loop-holds : tie.Need-loop-holds Inv-loop μ-loop
 loop-holds c = (search needs, refl, refl)
-
-mul-g : tie.Need-mul-g Inv-loop μ-loop
-mul-g c = search needs
-
-array-read-g : tie.Need-array-read-g Inv-loop μ-loop
-array-read-g c = search needs
-
-keeps-apart-requires : tie.Need-keeps-apart-requires Inv-loop μ-loop
-keeps-apart-requires c κs = search needs
 
 returns : tie.Need-returns Inv-loop μ-loop
 unfolding holdsWith
@@ -54,19 +39,10 @@ returns c = let at = c .before .before .before in
     let e : apart (a .n) (a .t1) (a .p) (at .loop .q) ≡ false = sym (c .before .keeps-apart .ensures) ∙ not-true _ (c .if1 .taken) in
     sym (ap (λ (b : Bool). b && leb 2 (soundAfter (a .t1) (getD (a .t1) (a .p) 0) (a .n))) (all-fails (apart (a .n) (a .t1) (a .p)) (a .n) (at .loop .q) (c .before .before .loop-test .taken) e))
 
-sound-after-requires : tie.Need-sound-after-requires Inv-loop μ-loop
-sound-after-requires c κs = search needs
-
 add-sound : tie.Need-add-sound Inv-loop μ-loop
 add-sound c = let at = c .before .before .before .before in
     let a = at .before .args in
     omega (arith, count-le (λ q. not (byStep (getD (a .t1) (a .p) 0) (getD (a .t1) q 0))) (at .loop .q), at .loop .inv .2, one-at-most (not (byStep (getD (a .t1) (a .p) 0) (getD (a .t1) (at .loop .q) 0))), c .sound-after .ensures)
-
-add-q : tie.Need-add-q Inv-loop μ-loop
-add-q c = search needs
-
-loop-less : tie.Need-loop-less Inv-loop μ-loop
-loop-less c = search needs
 
 loop-again : tie.Need-loop-again Inv-loop μ-loop
 loop-again c = let at = c .before .before .before .before in
@@ -89,18 +65,8 @@ pub holds-with-spec : {M : Type 1} → statement M
 holds-with-spec =
     tie.close
     (tie.spec
-    Inv-loop
-    μ-loop
-    mul-f
-    array-read-f
-    loop-holds
-    mul-g
-    array-read-g
-    keeps-apart-requires
-    returns
-    sound-after-requires
-    add-sound
-    add-q
-    loop-less
-    loop-again
+    Inv-loop μ-loop (λ c. search needs) (λ c. search needs) loop-holds
+    (λ c. search needs) (λ c. search needs) (λ c κs. search needs) returns
+    (λ c κs. search needs) add-sound
+    (λ c. search needs) (λ c. search needs) loop-again
     returns-2)

@@ -9,11 +9,11 @@ use Rattle.ring.proofs.terms.keeps_apart.Tie as tie
 returns : tie.Need-returns
 returns c = rw (eq-eqb _ _ (c .if1 .taken))
 
-too-close-requires : tie.Need-too-close-requires
-too-close-requires c κs = search needs
-
 returns-2 : tie.Need-returns-2
 returns-2 c = rw (ne-eqb _ _ (c .before .if1 .left)) (ap not (c .too-close .ensures))
 
 pub keeps-apart-spec : {M : Type 1} → statement M
-keeps-apart-spec = tie.close (tie.spec returns too-close-requires returns-2)
+keeps-apart-spec = tie.close
+    (tie.spec
+    returns
+    (λ c κs. search needs) returns-2)

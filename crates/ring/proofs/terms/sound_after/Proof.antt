@@ -4,9 +4,6 @@ use mathlib.Core.Path.{sym, _∙_}
 use Rattle.ring.proofs.terms.sound_after.Statement.{statement}
 use Rattle.ring.proofs.terms.sound_after.Tie as tie
 
-by-step-requires : tie.Need-by-step-requires
-by-step-requires c κs = search needs
-
 returns : tie.Need-returns
 returns c = rw (sym (c .before .by-step .ensures) ∙ c .if1 .taken)
 
@@ -14,4 +11,7 @@ returns-2 : tie.Need-returns-2
 returns-2 c = rw (sym (c .before .by-step .ensures) ∙ c .if1 .left)
 
 pub sound-after-spec : {M : Type 1} → statement M
-sound-after-spec = tie.close (tie.spec by-step-requires returns returns-2)
+sound-after-spec = tie.close
+    (tie.spec
+    (λ c κs. search needs) returns
+    returns-2)

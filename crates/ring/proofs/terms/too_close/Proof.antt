@@ -14,14 +14,8 @@ before-it c =
     let a = c .before .before .args in
     leb-true (a .g) (a .f) (and-true (ltb 0 (a .g)) (leb (a .g) (a .f)) (sym (c .before .by-step .ensures) ∙ c .if1 .taken) .1)
 
-by-step-requires : tie.Need-by-step-requires
-by-step-requires c κs = search needs
-
 sub-result : tie.Need-sub-result
 sub-result c = before-it c
-
-cast-result : tie.Need-cast-result
-cast-result c = search needs
 
 returns : tie.Need-returns
 returns c = rw (sym (c .before .by-step .ensures) ∙ c .if1 .taken)
@@ -30,4 +24,8 @@ returns-2 : tie.Need-returns-2
 returns-2 c = rw (sym (c .before .by-step .ensures) ∙ c .if1 .left)
 
 pub too-close-spec : {M : Type 1} → statement M
-too-close-spec = tie.close (tie.spec by-step-requires sub-result cast-result returns returns-2)
+too-close-spec = tie.close
+    (tie.spec
+    (λ c κs. search needs) sub-result
+    (λ c. search needs) returns
+    returns-2)

@@ -4,17 +4,11 @@ use Rattle.seats.proofs.Machine.{one-shifted}
 use Rattle.run.proofs.marks.with_seat.Statement.{statement}
 use Rattle.run.proofs.marks.with_seat.Tie as tie
 
-cast-result : tie.Need-cast-result
-cast-result c = search needs
-
-shl-result : tie.Need-shl-result
-shl-result c = search needs
-
 returns : tie.Need-returns
 returns c = let a = c .before .args in rw (c .if1 .taken, one-shifted (a .seat) (c .before .pre))
 
-returns-2 : tie.Need-returns-2
-returns-2 c = search needs
-
 pub with-seat-spec : {M : Type 1} → statement M
-with-seat-spec = tie.close (tie.spec cast-result shl-result returns returns-2)
+with-seat-spec = tie.close
+    (tie.spec
+    (λ c. search needs) (λ c. search needs) returns
+    (λ c. search needs))
