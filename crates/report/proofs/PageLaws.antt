@@ -1,7 +1,7 @@
 -- The page by the answer of a run, what `page` promises from what is written, and what callers need of it. Assumes nothing.
 use mathlib.Core.Path.{_≡_, sym, ap, _∙_}
 use mathlib.Core.Bool.{true, false}
-use mathlib.Core.List.{List, [], _++_, append-assoc}
+use mathlib.Core.List.{List, _++_, append-assoc}
 use mathlib.Core.Logic.{⊎-elim}
 use Prim.Native.Nat.{ℕ, _≤_}
 use native.Mathlib.Omega.{arith}
@@ -23,10 +23,10 @@ use Rattle.run.specs.declared.Answer.the-variants as answers
 use Rattle.run.proofs.Fits.{run-fits}
 use Rattle.report.specs.Page.{busLine, withinLine, outsideLine, refusedLine, pageOf}
 use Rattle.report.specs.Promise.{noTrail, textOf, pageMost, PagePromise}
-use Rattle.report.specs.Inside.{Written, Writes, Holds, resultOf, upToFaults}
-use Rattle.text.specs.Lent.{lent, placeAt}
+use Rattle.report.specs.Inside.{Writes, Holds, resultOf, upToFaults}
 use Rattle.text.specs.declared.Place.{Place}
-use Rattle.report.proofs.Writing.{nothing, then-text, same}
+use Rattle.text.proofs.Written.{Written, from-start}
+use Rattle.report.proofs.Writing.{same}
 
 -- ---- the page by the answer
 
@@ -71,7 +71,7 @@ module _ (sheet : List ℕ) {page text page′ : List ℕ} {end : Place} (e : te
   w = same e f
 
   all : Written page (textOf sheet) end page′
-  all = rw (← w .done) at (then-text page [] (lent (placeAt 0 true) page) (textOf sheet) (nothing page))
+  all = rw (← w .done) at (from-start page (textOf sheet))
 
   pub page-whole : end .whole ≡ true → PagePromise sheet page (end .at) page′
   page-whole h =

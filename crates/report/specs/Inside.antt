@@ -1,19 +1,17 @@
--- What the functions that write the page promise each other: a text goes after what is written already.
+-- What the functions that write the page promise each other: their text, and the most bytes that it has.
 use mathlib.Core.List.{List, [], _∷_, _++_}
 use mathlib.Core.Path.{_≡_}
 use Prim.Native.Nat.{ℕ, _+_, _*_, _≤_}
-use lib.Dec.{leb}
-use lib.ListN.{length, take}
-use Rattle.lists.specs.Put.{put}
+use lib.ListN.{length}
 use Rattle.limits.specs.Limits.{seatsMost, roomMost}
 use Rattle.ring.specs.Trail.{width}
 use Rattle.ring.specs.declared.Ring.{Ring}
 use Rattle.run.specs.Outcome.{Result, said}
 use Rattle.run.specs.declared.Ran.{Ran}
 use Rattle.text.specs.Decimal.{decimal}
-use Rattle.report.specs.Page.{lineOf, recordsAndSeats}
 use Rattle.text.specs.Lent.{lent, withText}
 use Rattle.text.specs.declared.Place.{Place}
+use Rattle.report.specs.Page.{lineOf, recordsAndSeats}
 
 -- the most bytes in the line of a count, of a record, of a seat and in the two verdict lines: no number in them has more than five digits
 abbrev pub countMost : ℕ
@@ -38,13 +36,7 @@ upToFaults x bus = recordsAndSeats x ++ lineOf (decimal 2 ∷ []) ++ bus
 abbrev pub upToFaultsMost : ℕ
 upToFaultsMost = countMost + recordMost * roomMost + (countMost + seatMost * seatsMost) + countMost + busMost
 
--- the buffer that came as `start` holds as much of the text as it can
-pub record Written (start text : List ℕ) (place : Place) (page : List ℕ) : Type 0 where
-  pub bytes : page ≡ put start 0 (take (length start) text)
-  pub at : place .at ≡ length (take (length start) text)
-  pub whole : place .whole ≡ leb (length text) (length start)
-
--- the text, of at most so many bytes, is written
+-- the text is written, and has at most so many bytes
 pub record Writes (text : List ℕ) (most : ℕ) (place : Place) (page : List ℕ) (place′ : Place) (page′ : List ℕ) : Type 0 where
   pub done : lent place′ page′ ≡ withText (lent place page) text
   pub short : length text ≤ most
@@ -55,6 +47,6 @@ resultOf r trail = record { outcome = said (r .answer); ring = r .ring; modules 
 
 -- the ring has seats and records within the limits, and the trail has the records
 pub record Holds (ring : Ring) (trail : List ℕ) : Type 0 where
-  pub seats : ring .n ≤ 32
-  pub few : ring .records ≤ 1024
+  pub seats : ring .n ≤ seatsMost
+  pub few : ring .records ≤ roomMost
   pub records : width * ring .records ≤ length trail

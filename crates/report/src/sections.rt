@@ -1,6 +1,7 @@
 // The page's sections, each after its count, and the page made of them.
 ghost use Prim.Native.Nat.{_+_, _*_, _≤_};
 ghost use lib.ListN.{length};
+ghost use Rattle.limits.specs.Limits.{seatsMost};
 ghost use Rattle.ring.specs.Trail.{width};
 ghost use Rattle.report.specs.Page.{recordLine, seatLine, section, busLine, pageOf};
 ghost use Rattle.report.specs.Promise.{pageMost};
@@ -42,7 +43,7 @@ fn seat_section(
     modules: [u16; limits::SEATS_MOST],
     ring: Ring,
 ) -> Place
-    requires { ⌜ ring .n ≤ 32 ⌝ }
+    requires { ⌜ ring .n ≤ seatsMost ⌝ }
     ensures { λ r. ⌜ Writes (section (ring .n) (seatLine modules ring)) (countMost + seatMost * ring .n) place (now (page .entry)) r (now (page .exit)) ⌝ }
 {
     let n = ring.n;

@@ -1,4 +1,4 @@
--- A good sheet has at most 10,956 bytes. Assumes nothing.
+-- A good sheet has at most 10,956 bytes: line by line, the most digits that its limits leave. Assumes nothing.
 use mathlib.Core.Path.{_≡_, refl}
 use mathlib.Core.Bool.{Bool, true, false, cond}
 use mathlib.Core.List.{List}
@@ -20,6 +20,7 @@ use Rattle.sheet_lines.proofs.ByteLaws.{byte-found}
 use Rattle.sheet_lines.proofs.NumberLaws.{digit-range}
 use Rattle.sheet_lines.proofs.LineLaws.{then-found, found-value, found-next, ended-found, line-within}
 use Rattle.sheet.proofs.MarkLaws.{good-mark}
+use Rattle.sheet_laws.specs.Length.{sheetMost}
 use Rattle.sheet_laws.proofs.Parts.{module-found, slot-found, mark-line-found, fields-found, sheet-found}
 
 -- ---- numbers: a value says how long its digits are
@@ -116,7 +117,7 @@ lines-short line w h (suc more) at k before after next e =
 
 -- ---- the sheet
 
-pub longest : (s : List ℕ) (sheet : Sheet) (end : ℕ) → sheetIn s ≡ found sheet end → length s ≤ 10956
+pub longest : (s : List ℕ) (sheet : Sheet) (end : ℕ) → sheetIn s ≡ found sheet end → length s ≤ sheetMost
 longest s sheet end e =
     let g = sheet-found s sheet end e in
     let r = g .ring-is in

@@ -1,2 +1,3 @@
--- The file that states what the reader has seen when it refuses.
+-- The files that state theorems on the reader.
+pub mod Length
 pub mod Sight
