@@ -27,6 +27,10 @@ textOf sheet = pageOf (runOf sheet noTrail)
 abbrev pub pageMost : ℕ
 pageMost = 21504
 
+-- a buffer for any page, nothing written yet
+unfoldable pub noPage : List ℕ
+noPage = replicate pageMost 0
+
 pub record PagePromise (sheet page : List ℕ) (r : ℕ) (page′ : List ℕ) : Type 0 where
   -- as much of the text as the buffer holds stands at its start, and no other byte is touched
   pub bytes : page′ ≡ put page 0 (take (length page) (textOf sheet))

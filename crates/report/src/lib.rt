@@ -1,6 +1,6 @@
 // The printed page of a run sheet, as document 01 says under 'What the program prints'.
 ghost use mathlib.Core.Path.{_≡_};
-ghost use Rattle.report.specs.Promise.{noTrail, PagePromise};
+ghost use Rattle.report.specs.Promise.{noTrail, noPage, PagePromise};
 use text::Place;
 
 mod lines; // lines.rt: the lines of the page
@@ -8,6 +8,13 @@ mod sections; // sections.rt: its sections
 
 // No page is longer than so many bytes.
 pub const PAGE_MOST: usize = 21504;
+
+// An empty buffer that has room for any page.
+pub fn no_page() -> [u8; PAGE_MOST]
+    ensures { λ r. ⌜ r ≡ noPage ⌝ }
+{
+    [0u8; PAGE_MOST]
+}
 
 // The trail that is lent to the run: all the room that a trail can have.
 const TRAIL_LENT: usize = ring::WIDTH * limits::ROOM_MOST;

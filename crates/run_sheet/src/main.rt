@@ -8,7 +8,7 @@ const SHEET_READ: usize = 16384;
 fn main() {
     let mut sheet = [0u8; SHEET_READ];
     let got = io::read_full(STDIN_FILENO, &mut sheet);
-    let mut page = [0u8; report::PAGE_MOST];
+    let mut page = report::no_page();
     let length = report::page(&sheet[..got], &mut page);
     io::write_all(STDOUT_FILENO, &page[..length]);
 }

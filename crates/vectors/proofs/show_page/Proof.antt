@@ -17,6 +17,6 @@ pub show-page-spec : {M : Type 1} → statement M
 show-page-spec =
     tie.close
     (tie.spec
-    (λ c. search needs) (λ c κs. search needs) array-share-prefix-page
+    (λ c κs. search needs) (λ c. search needs) (λ c κs. search needs) array-share-prefix-page
     slice-aggregate-say
     (λ c κs. search needs) (λ c. search needs))
