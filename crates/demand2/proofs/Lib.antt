@@ -7,6 +7,7 @@ pub mod Sum
 pub mod Standing
 pub mod Story
 pub mod Paper
+pub mod Marks
 pub mod Empty
 pub mod Whole
 pub mod EmptyReader

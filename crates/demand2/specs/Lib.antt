@@ -3,5 +3,6 @@ pub mod Refused
 pub mod Records
 pub mod Story
 pub mod Paper
+pub mod Marks
 pub mod Empty
 pub mod EmptyReader
