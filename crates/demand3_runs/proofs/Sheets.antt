@@ -13,13 +13,14 @@ use Rattle.sheet.specs.Sheets.{sheetIn}
 use Rattle.sheet.specs.declared.Sheet.{Sheet}
 use Rattle.sheet_laws.proofs.Good.{read-good}
 use Rattle.run.specs.Marks.{marksAt}
+use Rattle.run.specs.Along.{benchAt}
 use Rattle.run.specs.Outcome.{Heard, Outcome, ran, Result}
 use Rattle.run.specs.Run.{runOf, runSheet}
 use Rattle.run.proofs.Reading.{run-read, run-offence}
 use Rattle.run.proofs.Story.{Ending, agreed, differed, stopped, run-story}
 use Rattle.demand3.specs.Demand.{Agreement}
 use Rattle.demand3.proofs.Demand.{demand3}
-use Rattle.demand3_runs.specs.Sheets.{benchAt, AgreedThroughout, Demand3OfSheets}
+use Rattle.demand3_runs.specs.Sheets.{AgreedThroughout, Demand3OfSheets}
 
 -- a run's verdict is that on its last ring
 last-within : (sheet : Sheet) (trail : List ℕ) (k : ℕ) (o : Outcome) → Ending sheet trail k o → (bus : Heard) → o ≡ ran bus within

@@ -3,20 +3,16 @@ use mathlib.Core.List.{List}
 use mathlib.Core.Path.{_≡_}
 use Prim.Native.Nat.{ℕ, _≤_, _<_}
 use Rattle.limits.specs.Refusals.{done}
-use Rattle.lists.specs.Counted.{tab}
 use Rattle.ring.specs.Refusals.{within}
-use Rattle.steps.specs.Run.{Bench, toldOn, freshBench, runOn}
+use Rattle.steps.specs.Run.{toldOn}
 use Rattle.sheet_lines.specs.Found.{found}
 use Rattle.sheet.specs.Sheets.{sheetIn}
 use Rattle.sheet.specs.declared.Sheet.{Sheet}
 use Rattle.run.specs.Marks.{marksAt}
+use Rattle.run.specs.Along.{benchAt}
 use Rattle.run.specs.Outcome.{Heard, ran}
 use Rattle.run.specs.Run.{runOf}
 use Rattle.demand3.specs.Demand.{Agreement}
-
--- the ring and the trail after the first k slots of a sheet
-abbrev pub benchAt : Sheet → List ℕ → ℕ → Bench
-benchAt sheet trail k = runOn (tab k (marksAt sheet)) (freshBench (sheet .n) trail)
 
 -- the bytes are a sheet's, its run takes so many steps, and before and after each of them the ring is in agreement
 pub record AgreedThroughout (bytes trail : List ℕ) : Type 0 where

@@ -17,15 +17,12 @@ use Rattle.steps.proofs.Reached.{fresh-time, step-after, run-append}
 use Rattle.sheet.specs.Good.{slotOf}
 use Rattle.sheet.specs.declared.Sheet.{Sheet}
 use Rattle.run.specs.Marks.{marksAt}
+pub use Rattle.run.specs.Along.{benchAt}
 use Rattle.run.specs.Outcome.{agrees, differs, Outcome, ran, refused, Result}
 use Rattle.run.specs.Run.{spokenOn, judged, runFrom, runSheet}
 use Rattle.run.proofs.Running.{marksOn, heardOn, run-ends, run-differs, run-stops, run-goes-on}
 
 -- ---- what is said
-
--- the ring and the trail after the first k slots: the step's definition folded over their marks
-abbrev pub benchAt : Sheet → List ℕ → ℕ → Bench
-benchAt sheet trail k = runOn (tab k (marksAt sheet)) (freshBench (sheet .n) trail)
 
 -- the bus agrees in slot k, or does not
 abbrev pub Agrees : Sheet → List ℕ → ℕ → Type 0

@@ -3,3 +3,4 @@ pub mod Outcome
 pub mod Marks
 pub mod Run
 pub mod Inside
+pub mod Along
