@@ -1,5 +1,7 @@
 -- The limits of document 01, each once.
+use mathlib.Core.Bool.{Bool, _&&_}
 use Prim.Native.Nat.{ℕ}
+use lib.Dec.{leb}
 
 -- a ring has 2 to 32 seats
 abbrev pub seatsLeast : ℕ
@@ -7,6 +9,9 @@ seatsLeast = 2
 
 abbrev pub seatsMost : ℕ
 seatsMost = 32
+
+abbrev pub seatsStand : ℕ → Bool
+seatsStand n = leb seatsLeast n && leb n seatsMost
 
 -- a run has at most 4,096 slots
 abbrev pub slotsMost : ℕ

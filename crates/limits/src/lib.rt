@@ -7,13 +7,13 @@ pub const SEATS_LEAST: usize = 2;
 
 pub const SEATS_MOST: usize = 32;
 // A run has at most 4,096 slots.
-pub const SLOTS_MOST: u16 = 4096;
+pub const SLOTS_MOST: usize = 4096;
 // A trail has room for at most 1,024 records.
 pub const ROOM_MOST: usize = 1024;
 // A sheet has at most 256 marks, and module numbers up to 65,535.
 pub const MARKS_MOST: usize = 256;
 
-pub const MODULE_MOST: u32 = 65535;
+pub const MODULE_MOST: usize = 65535;
 
 // Why something is refused.
 pub enum Refusal {
