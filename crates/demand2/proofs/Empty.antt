@@ -12,14 +12,14 @@ use Rattle.limits.specs.declared.Refusal.the-variants.{NotARing, WrongMark, AtT
 use Rattle.lists.specs.Counted.{sum}
 use Rattle.seats.specs.Sets.{sizeOf}
 use Rattle.ring.specs.Ring.{seatOf, freshRing, zeroRing, isRing, everySeatStands}
-use Rattle.ring.specs.Step.{turnOf}
-use Rattle.ring.specs.Refusals.{told, stepTold}
+use Rattle.turn.specs.Turn.{turnOf}
+use Rattle.ring.specs.Refusals.{stepTells, stepTold}
 use Rattle.ring.specs.Promise.{StepPromise, ringOf, trailOf}
 use Rattle.ring.specs.declared.Ring.{Ring}
 use Rattle.ring.specs.declared.Stepped.{Stepped}
-use Rattle.ring.specs.declared.Answer.{Answer}
-use Rattle.ring.specs.declared.Answer.the-variants.{Taken, Refused}
-use Rattle.ring.specs.declared.slot.Seat.{Seat}
+use Rattle.ring.specs.declared.StepAnswer.{StepAnswer}
+use Rattle.ring.specs.declared.StepAnswer.the-variants.{Taken, Refused}
+use Rattle.turn.specs.declared.Seat.{Seat}
 use Rattle.steps.specs.Run.{Marks, quiet, sendFault, Bench, toldOn, stepOn, freshBench, Reached, start, taken}
 use Rattle.steps.proofs.Taken.{not-done}
 use Rattle.demand2.specs.Empty.{Program, given, on, Keeps, RefusesAll, refuser, Constant, constantly, StandsStill, sleeper, FirstOnly, firstTimer, Invents, inventor}
@@ -157,12 +157,12 @@ inventor-is = record {
 -- ---- and there is a program that keeps the promise, so that the theorems say something
 
 -- an answer in the engine's own type
-answerOf : Told → Answer
+answerOf : Told → StepAnswer
 answerOf done = Taken
 answerOf (refused number place) =
     Refused (cond (eqb number 10) NotARing (cond (eqb number 6) WrongMark (cond (eqb number 9) AtTheEnd NoRoom))) place
 
-answer-told : (r : Ring) (send : Bool) (receive bytes : ℕ) (a : Told) → Answered r send receive bytes a → told (answerOf a) ≡ a
+answer-told : (r : Ring) (send : Bool) (receive bytes : ℕ) (a : Told) → Answered r send receive bytes a → stepTells (answerOf a) ≡ a
 unfolding answerOf
 answer-told r send receive bytes a (not-a-ring h) = refl
 answer-told r send receive bytes a (wrong-mark v w) = refl

@@ -12,11 +12,11 @@ use borrow.Author.Tests.{ltb-true, ltb-false}
 use Rattle.lists.specs.Counted.{joined}
 use Rattle.lists.proofs.Tests.{both}
 use Rattle.lists.proofs.Put.{put-before, put-within, put-after}
-use Rattle.ring.specs.Table.{Gone}
+use Rattle.turn.specs.Table.{Gone}
 use Rattle.ring.specs.Step.{goneAt, countIn, recordsAt, trailAfter}
-use Rattle.ring.specs.Trail.{width, letterOf, recordOf, recordsOf}
+use Rattle.trail.specs.Trail.{width, letterOf, recordOf, recordsOf}
 use Rattle.ring.specs.declared.Ring.{Ring}
-use Rattle.ring.specs.declared.slot.Slot.{Slot}
+use Rattle.turn.specs.declared.Slot.{Slot}
 use Rattle.ring.proofs.Records.{length-all}
 use Rattle.demand2.specs.Records.{Entry, entryAt}
 

@@ -12,14 +12,14 @@ use borrow.Author.Tests.{eqb-true, eqb-false, eq-eqb}
 use Rattle.lists.proofs.Tests.{both}
 use Rattle.seats.specs.Sets.{hasSeat, withoutSeat, sizeOf}
 use Rattle.seats.proofs.Sets.{without-same, without-other, without-in, without-size}
-use Rattle.ring.specs.Table.{decided, Gone, gone, goneBy, withoutAll}
-use Rattle.ring.specs.Step.{viewOf, turnOf}
-use Rattle.ring.specs.declared.slot.Seat.{Seat}
-use Rattle.ring.specs.declared.slot.Slot.{Slot}
-use Rattle.ring.specs.declared.table.Cause.the-variants.{A}
-use Rattle.ring.specs.declared.table.Removal.{Removal}
-use Rattle.ring.specs.declared.table.Removal.the-variants.{Nobody, Itself, Owner, Both}
-use Rattle.steps.proofs.Turn.{turn-elim}
+use Rattle.turn.specs.Table.{decided, Gone, gone, goneBy, withoutAll}
+use Rattle.turn.specs.Turn.{viewOf, turnOf}
+use Rattle.turn.specs.declared.Seat.{Seat}
+use Rattle.turn.specs.declared.Slot.{Slot}
+use Rattle.turn.specs.declared.Cause.the-variants.{A}
+use Rattle.turn.specs.declared.Removal.{Removal}
+use Rattle.turn.specs.declared.Removal.the-variants.{Nobody, Itself, Owner, Both}
+use Rattle.turn.proofs.TurnLaws.{turn-elim}
 use Rattle.demand2.specs.Records.{tellsOf}
 use Rattle.demand2.specs.Story.{left}
 use Rattle.demand2.proofs.Entries.{entryOf, entriesOf}

@@ -5,12 +5,13 @@ use Prim.Native.Nat.{ℕ}
 use Rattle.seats.specs.Sets.{hasSeat}
 use Rattle.seats.proofs.Sets.{without-other}
 use Rattle.ring.specs.Ring.{seatOf, ownerOf}
-use Rattle.ring.specs.Step.{slotOf, otherTurn, turnOf}
+use Rattle.turn.specs.Turn.{otherTurn, turnOf}
+use Rattle.ring.specs.Step.{slotOf}
 use Rattle.ring.specs.declared.Ring.{Ring}
-use Rattle.ring.specs.declared.slot.Seat.{Seat}
-use Rattle.ring.specs.declared.slot.Slot.{Slot}
-use Rattle.ring.specs.declared.slot.Turn.{Turn}
-use Rattle.steps.proofs.Turn.{turn-out, turn-owner, turn-other, turn-still, turn-elim}
+use Rattle.turn.specs.declared.Seat.{Seat}
+use Rattle.turn.specs.declared.Slot.{Slot}
+use Rattle.turn.specs.declared.Turn.{Turn}
+use Rattle.turn.proofs.TurnLaws.{turn-out, turn-owner, turn-other, turn-still, turn-elim}
 use Rattle.demand2.specs.Marks.{sendHolds, receiveHolds, unmarked, IdleSend, IdleReceive, OwnReceive}
 
 -- a seat that expects the owner hears nothing where the owner is silent, marked or not

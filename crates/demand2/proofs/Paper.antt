@@ -14,19 +14,21 @@ use Rattle.limits.specs.Refusals.{done}
 use Rattle.lists.proofs.Tests.{both}
 use Rattle.seats.specs.Sets.{hasSeat}
 use Rattle.ring.specs.Ring.{seatOf, freshRing, zeroRing, isRing, everySeatStands}
-use Rattle.ring.specs.Table.{Row, table}
-use Rattle.ring.specs.Step.{slotOf, otherTurn, turnOf}
-use Rattle.ring.specs.Refusals.{told, stepTold}
+use Rattle.turn.specs.declared.table.Row.{Row}
+use Rattle.turn.specs.Table.{table}
+use Rattle.turn.specs.Turn.{otherTurn, turnOf}
+use Rattle.ring.specs.Step.{slotOf}
+use Rattle.ring.specs.Refusals.{stepTells, stepTold}
 use Rattle.ring.specs.Promise.{StepPromise, ringOf, trailOf}
 use Rattle.ring.specs.declared.Ring.{Ring}
-use Rattle.ring.specs.declared.Answer.the-variants.{Taken}
+use Rattle.ring.specs.declared.StepAnswer.the-variants.{Taken}
 use Rattle.ring.specs.declared.Stepped.{Stepped}
-use Rattle.ring.specs.declared.slot.Seat.{Seat}
-use Rattle.ring.specs.declared.slot.Turn.{Turn}
+use Rattle.turn.specs.declared.Seat.{Seat}
+use Rattle.turn.specs.declared.Turn.{Turn}
 use Rattle.steps.specs.Run.{Marks, quiet, missedBy, Bench, toldOn, stepOn, freshBench, Reached, start, taken}
-use Rattle.steps.proofs.Gone.{takesItself, takesOwner, gone-has}
+use Rattle.turn.proofs.GoneLaws.{takesItself, takesOwner, gone-has}
 use Rattle.steps.proofs.Seen.{speaks-is, view-table}
-use Rattle.steps.proofs.Turn.{turn-elim, turn-out}
+use Rattle.turn.proofs.TurnLaws.{turn-elim, turn-out}
 use Rattle.steps.proofs.Taken.{taken-ring}
 use Rattle.steps.proofs.After.{seat-after, seat-beyond}
 use Rattle.steps.proofs.Reached.{fresh-seat, step-after, reached-stands}
@@ -42,12 +44,12 @@ pub record Holds (s : Seat) (u : Updated) : Type 0 where
 
 -- for every step that keeps the engine's promise and is taken: a seat in its own set has the paper's, its doubt standing for the footnote's words
 abbrev pub PaperStep : Type 0
-PaperStep = (r : Ring) (m : Marks) (t : List ℕ) (s : Stepped) (t′ : List ℕ) → StepPromise r (m .send) (m .receive) t s t′ → told (s .answer) ≡ done
+PaperStep = (r : Ring) (m : Marks) (t : List ℕ) (s : Stepped) (t′ : List ℕ) → StepPromise r (m .send) (m .receive) t s t′ → stepTells (s .answer) ≡ done
     → (p : ℕ) → p < r .n → membership r p p ≡ true → Holds (seatOf (s .ring) p) (updated r m (seatOf r p .doubt) p)
 
 -- and a seat out of its own set is unchanged
 abbrev pub OutStays : Type 0
-OutStays = (r : Ring) (m : Marks) (t : List ℕ) (s : Stepped) (t′ : List ℕ) → StepPromise r (m .send) (m .receive) t s t′ → told (s .answer) ≡ done
+OutStays = (r : Ring) (m : Marks) (t : List ℕ) (s : Stepped) (t′ : List ℕ) → StepPromise r (m .send) (m .receive) t s t′ → stepTells (s .answer) ≡ done
     → (p : ℕ) → membership r p p ≡ false → seatOf (s .ring) p ≡ seatOf r p
 
 -- along any run, a seat's doubt is true exactly when the last slot that it expected was its own and its bit before that slot was false

@@ -14,16 +14,17 @@ use Rattle.lists.proofs.Tests.{both, and-true, and-fails}
 use Rattle.seats.specs.Sets.{hasSeat, fullSet}
 use Rattle.seats.proofs.Sets.{below-full, full-is, none-past, past-has}
 use Rattle.ring.specs.Ring.{isRing, ownerOf, zeroRing, freshRing, withCounts, everySeatStands}
-use Rattle.ring.specs.Step.{slotOf, countIn, turnOf}
-use Rattle.ring.specs.Refusals.{told, marksStand, stepTold}
+use Rattle.turn.specs.Turn.{turnOf}
+use Rattle.ring.specs.Step.{slotOf, countIn}
+use Rattle.ring.specs.Refusals.{stepTells, marksStand, stepTold}
 use Rattle.ring.specs.Promise.{StepPromise, ringOf, trailOf}
-use Rattle.ring.specs.Trail.{roomFor}
+use Rattle.trail.specs.Trail.{roomFor}
 use Rattle.ring.specs.declared.Ring.{Ring}
 use Rattle.ring.specs.declared.Stepped.{Stepped}
-use Rattle.ring.specs.declared.Answer.the-variants.{Refused}
+use Rattle.ring.specs.declared.StepAnswer.the-variants.{Refused}
 use Rattle.ring.proofs.Refusing as checks
 use Rattle.limits.specs.declared.Refusal.the-variants.{NoRoom}
-use Rattle.steps.proofs.Valid.{Valid, ring-valid, valid-ring}
+use Rattle.ring.proofs.Checked.{Valid, ring-valid, valid-ring}
 use Rattle.steps.proofs.Taken.{refused-ring, refused-trail}
 use Rattle.demand2.specs.Refused.{WrongMark, Answered, not-a-ring, wrong-mark, at-the-end, no-room, taken}
 
@@ -40,7 +41,7 @@ OnlyAnswers = (r : Ring) (send : Bool) (receive bytes : ℕ) (a : Told) → Answ
 -- a step that keeps the engine's promise and is refused: the ring and every byte of the trail are as they came
 abbrev pub RefusedLeaves : Type 0
 RefusedLeaves = (r : Ring) (send : Bool) (receive : ℕ) (t : List ℕ) (s : Stepped) (t′ : List ℕ) → StepPromise r send receive t s t′
-    → (number place : ℕ) → told (s .answer) ≡ refused number place → (s .ring ≡ r) × (t′ ≡ t)
+    → (number place : ℕ) → stepTells (s .answer) ≡ refused number place → (s .ring ≡ r) × (t′ ≡ t)
 
 -- ---- the tests, as the table's words
 

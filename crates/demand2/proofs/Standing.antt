@@ -9,14 +9,15 @@ use Rattle.lists.specs.Counted.{joined}
 use Rattle.lists.proofs.Each as each
 use Rattle.seats.specs.Sets.{hasSeat}
 use Rattle.ring.specs.Ring.{seatOf}
-use Rattle.ring.specs.Table.{table, arrived, bitOf, Gone, gone, goneBy}
-use Rattle.ring.specs.Step.{viewOf, goneAt}
+use Rattle.turn.specs.Table.{table, arrived, bitOf, Gone, gone, goneBy}
+use Rattle.turn.specs.Turn.{viewOf}
+use Rattle.ring.specs.Step.{goneAt}
 use Rattle.ring.specs.declared.Ring.{Ring}
-use Rattle.ring.specs.declared.slot.Slot.{Slot}
-use Rattle.ring.specs.declared.table.Cause.the-variants.{A, C}
-use Rattle.ring.specs.declared.table.Removal.{Removal}
-use Rattle.ring.specs.declared.table.Removal.the-variants.{Nobody, Itself, Owner, Both}
-use Rattle.steps.proofs.Turn.{turn-elim}
+use Rattle.turn.specs.declared.Slot.{Slot}
+use Rattle.turn.specs.declared.Cause.the-variants.{A, C}
+use Rattle.turn.specs.declared.Removal.{Removal}
+use Rattle.turn.specs.declared.Removal.the-variants.{Nobody, Itself, Owner, Both}
+use Rattle.turn.proofs.TurnLaws.{turn-elim}
 use Rattle.demand2.specs.Records.{Entry}
 use Rattle.demand2.specs.Story.{rowOf, Gives, itself, owner, itself-too, owner-too, Says, Before}
 use Rattle.demand2.proofs.Entries.{noEntry, entryOf, entriesOf, entriesAt, entriesIn}

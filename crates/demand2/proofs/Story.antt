@@ -11,17 +11,19 @@ use borrow.Author.Tests.{ne-eqb, ltb-true, ltb-false}
 use Rattle.limits.specs.Refusals.{done}
 use Rattle.lists.proofs.Tests.{both}
 use Rattle.ring.specs.Ring.{seatOf, freshRing, zeroRing, isRing, everySeatStands}
-use Rattle.ring.specs.Step.{slotOf, turnOf, countIn, ringAfter, trailAfter}
-use Rattle.ring.specs.Trail.{width}
-use Rattle.ring.specs.Refusals.{told, stepTold}
+use Rattle.turn.specs.Turn.{turnOf}
+use Rattle.ring.specs.Step.{slotOf, countIn, ringAfter, trailAfter}
+use Rattle.trail.specs.Trail.{width}
+use Rattle.ring.specs.Refusals.{stepTells, stepTold}
 use Rattle.ring.specs.Promise.{StepPromise, ringOf, trailOf}
 use Rattle.ring.specs.declared.Ring.{Ring}
-use Rattle.ring.specs.declared.slot.Seat.{Seat}
-use Rattle.ring.specs.declared.slot.Slot.{Slot}
+use Rattle.turn.specs.declared.Seat.{Seat}
+use Rattle.turn.specs.declared.Slot.{Slot}
 use Rattle.ring.specs.declared.Stepped.{Stepped}
-use Rattle.ring.specs.declared.Answer.the-variants.{Taken}
+use Rattle.ring.specs.declared.StepAnswer.the-variants.{Taken}
 use Rattle.steps.proofs.Taken.{told-taken, taken-ring, taken-trail}
-use Rattle.steps.proofs.After.{seat-after, seat-beyond, length-after, room-bytes}
+use Rattle.trail.proofs.RecordLaws.{room-bytes}
+use Rattle.steps.proofs.After.{seat-after, seat-beyond, length-after}
 use Rattle.demand2.specs.Records.{Entry, entryAt, passing, tellsOf}
 use Rattle.demand2.specs.Story.{left, Says, Before, OneStory}
 use Rattle.demand2.proofs.Entries.{noEntry, entriesIn, entries-count, entry-within, byte-outside}
@@ -34,7 +36,7 @@ use Rattle.demand2.proofs.Standing.{says-step, ordered-step}
 -- every step that keeps the engine's promise and is taken
 abbrev pub OneStoryEach : Type 0
 OneStoryEach = (r : Ring) (send : Bool) (receive : ℕ) (t : List ℕ) (s : Stepped) (t′ : List ℕ) → StepPromise r send receive t s t′
-    → told (s .answer) ≡ done → OneStory r (slotOf r send receive) t (s .ring) t′
+    → stepTells (s .answer) ≡ done → OneStory r (slotOf r send receive) t (s .ring) t′
 
 -- ---- the records that tell of one holder and one removed seat
 

@@ -14,17 +14,19 @@ use Rattle.lists.proofs.Counted.{sum-same, sum-plus, sum-const}
 use Rattle.seats.specs.Sets.{sizeOf}
 use Rattle.seats.proofs.Sets.{full-size}
 use Rattle.ring.specs.Ring.{seatOf, freshRing, zeroRing, isRing, everySeatStands}
-use Rattle.ring.specs.Step.{slotOf, turnOf, goneAt, countAt, countIn, ringAfter, trailAfter}
+use Rattle.turn.specs.Turn.{turnOf}
+use Rattle.ring.specs.Step.{slotOf, goneAt, countAt, countIn, ringAfter, trailAfter}
 use Rattle.ring.specs.Refusals.{stepTold}
 use Rattle.ring.specs.Promise.{ringOf, trailOf}
-use Rattle.ring.specs.Trail.{width, roomFor}
+use Rattle.trail.specs.Trail.{width, roomFor}
 use Rattle.ring.specs.declared.Ring.{Ring}
-use Rattle.ring.specs.declared.slot.Slot.{Slot}
-use Rattle.ring.specs.declared.slot.Seat.{Seat}
+use Rattle.turn.specs.declared.Slot.{Slot}
+use Rattle.turn.specs.declared.Seat.{Seat}
 use Rattle.steps.specs.Run.{Marks, Bench, toldOn, freshBench, Reached, start, runOn}
-use Rattle.steps.proofs.Valid.{owner-below}
+use Rattle.ring.proofs.Checked.{owner-below}
 use Rattle.steps.proofs.Taken.{told-taken}
-use Rattle.steps.proofs.After.{seat-after, room-bytes}
+use Rattle.trail.proofs.RecordLaws.{room-bytes}
+use Rattle.steps.proofs.After.{seat-after}
 use Rattle.steps.proofs.Reached.{Stands, fresh-records, fresh-seat, benchAfter, reached-stands, reached-elim, run-reached}
 use Rattle.demand2.specs.Records.{passing, heldBy, recordsBy}
 use Rattle.demand2.specs.Refused.{NoRoom, Answered, not-a-ring, wrong-mark, at-the-end, no-room, taken}

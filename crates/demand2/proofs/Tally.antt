@@ -9,11 +9,11 @@ use lib.ListN.{length, getD}
 use Rattle.lists.specs.Counted.{sum, countBelow}
 use Rattle.lists.proofs.Counted.{sum-same, sum-split, sum-zero, sum-only}
 use Rattle.lists.proofs.Each as each
-use Rattle.ring.specs.Table.{Gone}
+use Rattle.turn.specs.Table.{Gone}
 use Rattle.ring.specs.Step.{goneAt, countIn, trailAfter}
-use Rattle.ring.specs.Trail.{width}
+use Rattle.trail.specs.Trail.{width}
 use Rattle.ring.specs.declared.Ring.{Ring}
-use Rattle.ring.specs.declared.slot.Slot.{Slot}
+use Rattle.turn.specs.declared.Slot.{Slot}
 use Rattle.demand2.specs.Records.{Entry, entryAt, passing}
 use Rattle.demand2.proofs.Entries.{noEntry, entryOf, entriesOf, entriesAt, entriesIn, entries-count, entry-before, entry-within}
 

@@ -15,13 +15,14 @@ use Rattle.seats.specs.Sets.{hasSeat}
 use Rattle.seats.proofs.Sets.{full-has}
 use Rattle.ring.specs.Ring.{seatOf}
 use Rattle.ring.specs.Step.{slotOf, countIn, ringAfter, trailAfter}
-use Rattle.ring.specs.Trail.{width}
+use Rattle.trail.specs.Trail.{width}
 use Rattle.ring.specs.declared.Ring.{Ring}
-use Rattle.ring.specs.declared.slot.Seat.{Seat}
-use Rattle.ring.specs.declared.slot.Slot.{Slot}
+use Rattle.turn.specs.declared.Seat.{Seat}
+use Rattle.turn.specs.declared.Slot.{Slot}
 use Rattle.steps.specs.Run.{Marks, Bench, toldOn, freshBench, start, runOn}
 use Rattle.steps.proofs.Taken.{told-taken}
-use Rattle.steps.proofs.After.{seat-after, room-bytes}
+use Rattle.trail.proofs.RecordLaws.{room-bytes}
+use Rattle.steps.proofs.After.{seat-after}
 use Rattle.steps.proofs.Reached.{Stands, fresh-records, fresh-seat, benchAfter, reached-elim, run-reached}
 use Rattle.demand2.specs.Records.{Entry, entryAt, passing, tellsOf}
 use Rattle.demand2.specs.Story.{Before, OneStory, WholeStory}

@@ -11,13 +11,13 @@ use Rattle.limits.specs.declared.Refusal.the-variants.{NotARing}
 use Rattle.lists.specs.Counted.{sum}
 use Rattle.seats.specs.Sets.{sizeOf}
 use Rattle.ring.specs.Ring.{seatOf, withCounts, zeroRing}
-use Rattle.ring.specs.Refusals.{told}
-use Rattle.ring.specs.Trail.{width}
+use Rattle.ring.specs.Refusals.{stepTells}
+use Rattle.trail.specs.Trail.{width}
 use Rattle.ring.specs.Promise.{StepPromise, ringOf, trailOf}
 use Rattle.ring.specs.declared.Ring.{Ring}
 use Rattle.ring.specs.declared.Stepped.{Stepped}
-use Rattle.ring.specs.declared.Answer.{Answer}
-use Rattle.ring.specs.declared.Answer.the-variants.{Taken, Refused}
+use Rattle.ring.specs.declared.StepAnswer.{StepAnswer}
+use Rattle.ring.specs.declared.StepAnswer.the-variants.{Taken, Refused}
 use Rattle.steps.specs.Run.{Marks, Bench, Reached}
 
 -- what a step gives: its answer with the ring, and the trail after it
@@ -25,7 +25,7 @@ pub record Given : Type 0 where
   pub stepped : Stepped
   pub trail : List ℕ
 
-abbrev pub given : Answer → Ring → List ℕ → Given
+abbrev pub given : StepAnswer → Ring → List ℕ → Given
 given a r t = record { stepped = record { answer = a; ring = r }; trail = t }
 
 -- a program in the place of step
@@ -44,7 +44,7 @@ Keeps f = (n bytes : ℕ) → 2 ≤ n → n ≤ 32 → bytes ≤ width * roomMos
 
 abbrev pub RefusesAll : Program → Type 0
 RefusesAll f = (r : Ring) (send : Bool) (receive : ℕ) (t : List ℕ)
-    → (number : ℕ) × (place : ℕ) × (told (f r send receive t .stepped .answer) ≡ refused number place)
+    → (number : ℕ) × (place : ℕ) × (stepTells (f r send receive t .stepped .answer) ≡ refused number place)
 
 abbrev pub refuser : Program
 refuser r send receive t = given (Refused NotARing 0) r t
@@ -86,7 +86,7 @@ pub record Invents (f : Program) : Type 0 where
   pub run : Reached n (replicate bytes 0) bench
   pub marks : Marks
   pub mask : marks .receive < 2 ^ 32
-  pub taken : told (on f bench marks .stepped .answer) ≡ done
+  pub taken : stepTells (on f bench marks .stepped .answer) ≡ done
   pub wrong : sum n (λ p. sizeOf (seatOf (on f bench marks .stepped .ring) p .set)) + on f bench marks .stepped .ring .records ≡ n * n → ⊥
 
 abbrev pub inventor : Program

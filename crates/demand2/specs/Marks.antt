@@ -3,11 +3,13 @@ use mathlib.Core.Bool.{Bool, true, false, not, _&&_}
 use mathlib.Core.Path.{_≡_}
 use Prim.Native.Nat.{ℕ}
 use Rattle.seats.specs.Sets.{hasSeat, withoutSeat}
-use Rattle.ring.specs.Ring.{seatOf, ownerOf, out}
-use Rattle.ring.specs.Step.{slotOf, turnOf, turnAt}
+use Rattle.turn.specs.Turn.{out}
+use Rattle.ring.specs.Ring.{seatOf, ownerOf}
+use Rattle.turn.specs.Turn.{turnOf}
+use Rattle.ring.specs.Step.{slotOf, turnAt}
 use Rattle.ring.specs.declared.Ring.{Ring}
-use Rattle.ring.specs.declared.slot.Seat.{Seat}
-use Rattle.ring.specs.declared.slot.Slot.{Slot}
+use Rattle.turn.specs.declared.Seat.{Seat}
+use Rattle.turn.specs.declared.Slot.{Slot}
 
 -- a send mark takes hold if the owner is in its own set
 abbrev pub sendHolds : Ring → Bool

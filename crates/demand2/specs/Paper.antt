@@ -6,9 +6,9 @@ use lib.Dec.{eqb}
 use Rattle.seats.specs.Sets.{hasSeat}
 use Rattle.ring.specs.Ring.{seatOf}
 use Rattle.ring.specs.declared.Ring.{Ring}
-use Rattle.ring.specs.declared.table.Cause.the-variants.{A, B, C, D, E}
-use Rattle.ring.specs.declared.table.Removal.{Removal}
-use Rattle.ring.specs.declared.table.Removal.the-variants.{Nobody, Itself, Owner, Both}
+use Rattle.turn.specs.declared.Cause.the-variants.{A, B, C, D, E}
+use Rattle.turn.specs.declared.Removal.{Removal}
+use Rattle.turn.specs.declared.Removal.the-variants.{Nobody, Itself, Owner, Both}
 use Rattle.steps.specs.Run.{Marks, Bench, Reached, start, taken}
 
 -- ---- what each processor has

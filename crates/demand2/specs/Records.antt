@@ -5,7 +5,7 @@ use Prim.Native.Nat.{ℕ, _+_, _*_}
 use lib.Dec.{eqb}
 use lib.ListN.{getD}
 use Rattle.lists.specs.Counted.{countBelow}
-use Rattle.ring.specs.Trail.{width}
+use Rattle.trail.specs.Trail.{width}
 use Rattle.steps.specs.Run.{Bench}
 
 -- what a record says

@@ -7,9 +7,9 @@ use Rattle.limits.specs.Refusals.{Told, done, refused}
 use Rattle.seats.specs.Sets.{hasSeat}
 use Rattle.ring.specs.Ring.{ownerOf}
 use Rattle.ring.specs.Step.{slotOf, countIn}
-use Rattle.ring.specs.Trail.{roomFor}
+use Rattle.trail.specs.Trail.{roomFor}
 use Rattle.ring.specs.declared.Ring.{Ring}
-use Rattle.steps.specs.Valid.{Valid}
+use Rattle.ring.specs.Valid.{Valid}
 
 -- a receive mark for the owner or for no seat
 abbrev pub WrongMark : Ring → ℕ → Type 0

@@ -7,15 +7,16 @@ use Prim.Native.Nat.{ℕ, _-_, _*_, _≤_, _<_}
 use lib.ListN.{length, getD}
 use Rattle.seats.specs.Sets.{hasSeat}
 use Rattle.ring.specs.Ring.{seatOf}
-use Rattle.ring.specs.Table.{Row, table, arrived, bitOf}
-use Rattle.ring.specs.Step.{viewOf}
-use Rattle.ring.specs.Trail.{width, letterOf}
+use Rattle.turn.specs.declared.table.Row.{Row}
+use Rattle.turn.specs.Table.{table, arrived, bitOf}
+use Rattle.turn.specs.Turn.{viewOf}
+use Rattle.trail.specs.Trail.{width, letterOf}
 use Rattle.ring.specs.declared.Ring.{Ring}
-use Rattle.ring.specs.declared.slot.Slot.{Slot}
-use Rattle.ring.specs.declared.table.Cause.{Cause}
-use Rattle.ring.specs.declared.table.Cause.the-variants.{A, C}
-use Rattle.ring.specs.declared.table.Removal.{Removal}
-use Rattle.ring.specs.declared.table.Removal.the-variants.{Itself, Owner, Both}
+use Rattle.turn.specs.declared.Slot.{Slot}
+use Rattle.turn.specs.declared.Cause.{Cause}
+use Rattle.turn.specs.declared.Cause.the-variants.{A, C}
+use Rattle.turn.specs.declared.Removal.{Removal}
+use Rattle.turn.specs.declared.Removal.the-variants.{Itself, Owner, Both}
 use Rattle.steps.specs.Run.{Bench}
 use Rattle.demand2.specs.Records.{Entry, entryAt, passing, tellsOf}
 

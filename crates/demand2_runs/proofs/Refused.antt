@@ -16,7 +16,7 @@ use Rattle.ring.specs.declared.Ring.{Ring}
 use Rattle.seats.proofs.Sets.{none-past}
 use Rattle.seats.proofs.Joined.{with-below, has-with}
 use Rattle.steps.specs.Run.{toldOn, start}
-use Rattle.steps.proofs.Valid.{owner-below}
+use Rattle.ring.proofs.Checked.{owner-below}
 use Rattle.steps.proofs.Reached.{Stands, reached-stands, run-reached}
 use Rattle.sheet.specs.Good.{GoodSheet}
 use Rattle.sheet.specs.declared.Sheet.{Sheet}

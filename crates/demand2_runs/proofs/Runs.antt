@@ -8,7 +8,7 @@ use Rattle.lists.specs.Counted.{tab}
 use Rattle.ring.specs.Ring.{seatOf}
 use Rattle.ring.specs.Step as step
 use Rattle.ring.specs.declared.Ring.{Ring}
-use Rattle.ring.specs.declared.Answer.the-variants.{Taken}
+use Rattle.ring.specs.declared.StepAnswer.the-variants.{Taken}
 use Rattle.steps.specs.Run.{Marks, Bench, toldOn, stepOn, Reached}
 use Rattle.sheet.specs.Good.{GoodSheet}
 use Rattle.sheet.specs.declared.Sheet.{Sheet}

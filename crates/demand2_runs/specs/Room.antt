@@ -6,7 +6,7 @@ use lib.ListN.{length}
 use Rattle.limits.specs.Limits.{roomMost}
 use Rattle.limits.specs.Refusals.{numberOf}
 use Rattle.limits.specs.declared.Refusal.{Refusal}
-use Rattle.ring.specs.Trail.{width}
+use Rattle.trail.specs.Trail.{width}
 use Rattle.sheet_lines.specs.Found.{offence}
 use Rattle.sheet.specs.Sheets.{sheetIn}
 use Rattle.run.specs.Outcome.{refused}

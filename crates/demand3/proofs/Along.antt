@@ -6,7 +6,7 @@ use Rattle.seats.specs.Sets.{hasSeat}
 use Rattle.seats.proofs.Sets.{full-has}
 use Rattle.ring.specs.Ring.{seatOf, freshSeat, freshRing}
 use Rattle.ring.specs.declared.Ring.{Ring}
-use Rattle.ring.specs.declared.slot.Seat.{Seat}
+use Rattle.turn.specs.declared.Seat.{Seat}
 use Rattle.steps.specs.Run.{Marks, Bench, Reached}
 use Rattle.steps.proofs.Reached.{fresh-n, fresh-seat, fresh-beyond, benchAfter, reached-elim}
 use Rattle.demand3.specs.Model.{Given, Fresh, Terms, step}

@@ -8,8 +8,8 @@ use Rattle.limits.specs.Refusals.{done}
 use Rattle.ring.specs.Refusals.{verdictFound, within}
 use Rattle.ring.specs.declared.Ring.{Ring}
 use Rattle.steps.specs.Run.{Marks, Bench, toldOn, stepOn, Reached}
-use Rattle.steps.specs.Valid.{Valid}
-use Rattle.steps.proofs.Valid.{valid-ring, valid-wider}
+use Rattle.ring.specs.Valid.{Valid}
+use Rattle.ring.proofs.Checked.{valid-ring, valid-wider}
 use Rattle.steps.proofs.Reached.{benchAfter, step-after, reached-stands}
 use Rattle.demand3.specs.Faults.{FirstFault, Apart, TermsHold}
 use Rattle.demand3.specs.Verdict.{TermsKept}

@@ -10,7 +10,7 @@ use Rattle.limits.specs.Limits.{roomMost}
 use Rattle.lists.specs.Counted.{firstBelow}
 use Rattle.lists.proofs.Tests.{both, first-none, first-is, first-passes, first-before}
 use Rattle.ring.specs.Ring.{isRing}
-use Rattle.ring.specs.Terms.{termsHold, firstFailing}
+use Rattle.terms.specs.Terms.{termsHold, firstFailing}
 use Rattle.ring.specs.Refusals.{Finding, within, outside, unfit, verdictFound}
 use Rattle.ring.specs.declared.Ring.{Ring}
 use Rattle.demand3.specs.Faults.{TermsHold}

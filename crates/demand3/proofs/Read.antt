@@ -10,9 +10,10 @@ use lib.Pow.{pow-lt}
 use borrow.Author.Tests.{eqb-true, eq-eqb}
 use Rattle.seats.specs.Sets.{hasSeat}
 use Rattle.seats.proofs.Sets.{same-sets, has-one}
-use Rattle.ring.specs.Ring.{seatOf, out}
+use Rattle.turn.specs.Turn.{out}
+use Rattle.ring.specs.Ring.{seatOf}
 use Rattle.ring.specs.declared.Ring.{Ring}
-use Rattle.steps.specs.Valid.{Valid}
+use Rattle.ring.specs.Valid.{Valid}
 use Rattle.demand3.specs.Faults.{SoundSeat, FirstFault}
 use Rattle.demand3.specs.Demand.{Agreement}
 use Rattle.demand3.specs.Model.{Sound, Faulty, Agrees}

@@ -8,13 +8,14 @@ use lib.ListN.{getD}
 use borrow.Author.Tests.{ltb-true}
 use Rattle.lists.proofs.Counted.{getD-tab}
 use Rattle.seats.specs.Sets.{hasSeat}
-use Rattle.ring.specs.Ring.{seatOf, sound, noSeat, zeroRing, freshRing, everySeatStands, isRing}
-use Rattle.ring.specs.Step.{turnOf}
-use Rattle.ring.specs.Terms.{termsHold, firstFailing}
+use Rattle.turn.specs.Turn.{sound}
+use Rattle.ring.specs.Ring.{seatOf, noSeat, zeroRing, freshRing, everySeatStands, isRing}
+use Rattle.turn.specs.Turn.{turnOf}
+use Rattle.terms.specs.Terms.{termsHold, firstFailing}
 use Rattle.ring.specs.Refusals.{stepTold, verdictFound, within}
 use Rattle.ring.specs.Promise.{ringOf, trailOf}
 use Rattle.steps.specs.Run.{runOn}
-use Rattle.ring.specs.declared.slot.Seat.{Seat}
+use Rattle.turn.specs.declared.Seat.{Seat}
 use Rattle.demand3.specs.Faults.{SoundSeat, FirstFault, Apart}
 use Rattle.demand3.specs.Demand.{RunWithin}
 use Rattle.demand3.specs.Runs.{Run, fiveApart, fourApart, threeApart, alone, beforeOwn, afterOwn, beforeOut, afterOut}

@@ -10,7 +10,7 @@ use Rattle.lists.specs.Counted.{countBelow, allBelow}
 use Rattle.lists.proofs.Tests.{both, and-true, and-of, all-at, all-from}
 use Rattle.lists.proofs.Found.{two-counted, counted-two}
 use Rattle.ring.specs.Ring.{seatOf}
-use Rattle.ring.specs.Terms.{faultyBy, distance, apartBy, termsHold}
+use Rattle.terms.specs.Terms.{faultyBy, distance, apartBy, termsHold}
 use Rattle.ring.specs.declared.Ring.{Ring}
 use Rattle.demand3.specs.Faults.{FirstFault, Apart, SoundAfter, TwoSound, TermsHold}
 

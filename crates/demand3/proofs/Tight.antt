@@ -4,9 +4,10 @@ use mathlib.Core.Path.{_≡_, refl, sym, ap, _∙_}
 use Prim.Native.Nat.{ℕ, zero, suc}
 use native.Mathlib.Omega.{arith}
 use borrow.Author.Tests.{eqb-true}
-use Rattle.ring.specs.Ring.{seatOf, sound}
+use Rattle.turn.specs.Turn.{sound}
+use Rattle.ring.specs.Ring.{seatOf}
 use Rattle.ring.specs.declared.Ring.{Ring}
-use Rattle.ring.specs.declared.slot.Seat.{Seat}
+use Rattle.turn.specs.declared.Seat.{Seat}
 use Rattle.steps.specs.Run.{start}
 use Rattle.steps.proofs.Reached.{run-reached}
 use Rattle.demand3.specs.Faults.{SoundSeat, SoundAfter}

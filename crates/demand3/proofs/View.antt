@@ -11,14 +11,16 @@ use Rattle.lists.proofs.Tests.{both}
 use Rattle.seats.specs.Sets.{hasSeat}
 use Rattle.seats.proofs.Sets.{nobody-in}
 use Rattle.ring.specs.Ring.{seatOf}
-use Rattle.ring.specs.Table.{Row, table, arrived, bitOf, decided}
-use Rattle.ring.specs.Step.{slotOf, viewOf, misses, faultAfter, ownerTurn, otherTurn, turnOf, ringAfter}
+use Rattle.turn.specs.declared.table.Row.{Row}
+use Rattle.turn.specs.Table.{table, arrived, bitOf, decided}
+use Rattle.turn.specs.Turn.{viewOf, misses, faultAfter, ownerTurn, otherTurn, turnOf}
+use Rattle.ring.specs.Step.{slotOf, ringAfter}
 use Rattle.ring.specs.declared.Ring.{Ring}
-use Rattle.ring.specs.declared.slot.Seat.{Seat}
-use Rattle.ring.specs.declared.slot.Slot.{Slot}
-use Rattle.steps.proofs.Gone.{takesItself, takesOwner, gone-has}
+use Rattle.turn.specs.declared.Seat.{Seat}
+use Rattle.turn.specs.declared.Slot.{Slot}
+use Rattle.turn.proofs.GoneLaws.{takesItself, takesOwner, gone-has}
 use Rattle.steps.proofs.Seen.{speaks-is, view-table}
-use Rattle.steps.proofs.Turn.{turn-elim}
+use Rattle.turn.proofs.TurnLaws.{turn-elim}
 use Rattle.steps.proofs.After.{seat-after, seat-beyond}
 use Rattle.demand3.specs.Model.{State, Given, selfGone, ownerGone, newAck, first, owns, acts, rests, role}
 use Rattle.demand3.specs.Model.{speaks, leaves, drops, learns, hold, left, step}

@@ -7,7 +7,8 @@ use mathlib.Core.Path.{_≡_}
 use Prim.Native.Nat.{ℕ, _+_, _%_, _^_, _≤_, _<_}
 use Rattle.limits.specs.Limits.{seatsLeast, seatsMost}
 use Rattle.seats.specs.Sets.{hasSeat}
-use Rattle.ring.specs.Ring.{seatOf, out}
+use Rattle.turn.specs.Turn.{out}
+use Rattle.ring.specs.Ring.{seatOf}
 use Rattle.ring.specs.Refusals.{verdictFound, within}
 use Rattle.ring.specs.declared.Ring.{Ring}
 use Rattle.steps.specs.Run.{Marks, freshBench, runOn}

@@ -2,7 +2,8 @@
 use mathlib.Core.Bool.{true}
 use mathlib.Core.Path.{_≡_}
 use Prim.Native.Nat.{ℕ, _+_, _≤_, _<_}
-use Rattle.ring.specs.Ring.{seatOf, sound}
+use Rattle.turn.specs.Turn.{sound}
+use Rattle.ring.specs.Ring.{seatOf}
 use Rattle.ring.specs.declared.Ring.{Ring}
 
 -- seat p is sound so far

@@ -5,10 +5,10 @@ use Prim.Native.Nat.{ℕ, _-_}
 use lib.ListN.{replicate}
 use Rattle.lists.specs.Counted.{tab, allBelow}
 use Rattle.ring.specs.Ring.{seatOf}
-use Rattle.ring.specs.Terms.{apartBy}
+use Rattle.terms.specs.Terms.{apartBy}
 use Rattle.ring.specs.Refusals.{Finding, within, outside, verdictFound}
 use Rattle.ring.specs.declared.Ring.{Ring}
-use Rattle.ring.specs.declared.slot.Seat.{Seat}
+use Rattle.turn.specs.declared.Seat.{Seat}
 use Rattle.steps.specs.Run.{Marks, quiet, sendFault, missedBy, freshBench, runOn}
 
 pub data Run : Type 0 where

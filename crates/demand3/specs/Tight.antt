@@ -4,7 +4,8 @@ use mathlib.Core.List.{List}
 use mathlib.Core.Path.{_≡_}
 use Prim.Native.Nat.{ℕ, _+_, _≤_}
 use Rattle.limits.specs.Limits.{seatsLeast, seatsMost}
-use Rattle.ring.specs.Ring.{seatOf, out}
+use Rattle.turn.specs.Turn.{out}
+use Rattle.ring.specs.Ring.{seatOf}
 use Rattle.steps.specs.Run.{Marks, freshBench, runOn}
 use Rattle.demand3.specs.Faults.{SoundSeat, FirstFault, Apart, TwoSound}
 use Rattle.demand3.specs.Demand.{Agreement, RunWithin}

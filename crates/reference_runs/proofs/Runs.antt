@@ -2,8 +2,8 @@
 use mathlib.Core.Path.{_≡_, refl}
 use mathlib.Core.List.{map}
 use Rattle.ring.specs.Ring.{zeroRing, freshRing, everySeatStands, isRing}
-use Rattle.ring.specs.Step.{turnOf}
-use Rattle.ring.specs.Terms.{termsHold, firstFailing}
+use Rattle.turn.specs.Turn.{turnOf}
+use Rattle.terms.specs.Terms.{termsHold, firstFailing}
 use Rattle.ring.specs.Refusals.{stepTold, verdictFound}
 use Rattle.ring.specs.Promise.{ringOf, trailOf}
 use Rattle.sheet_lines.specs.Bytes.{byteAt, digitsAt, numberAt}

@@ -6,8 +6,9 @@ use lib.ListN.{take, replicate}
 use Rattle.limits.specs.Refusals.{Told}
 use Rattle.lists.specs.Counted.{tab, joined}
 use Rattle.seats.specs.Sets.{hasSeat}
-use Rattle.ring.specs.Ring.{seatOf, out}
-use Rattle.ring.specs.Trail.{width}
+use Rattle.turn.specs.Turn.{out}
+use Rattle.ring.specs.Ring.{seatOf}
+use Rattle.trail.specs.Trail.{width}
 use Rattle.ring.specs.Refusals.{Finding, verdictFound}
 use Rattle.ring.specs.declared.Ring.{Ring}
 use Rattle.sheet.specs.Sheets.{sheetIn, toldOf}

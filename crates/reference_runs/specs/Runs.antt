@@ -2,11 +2,11 @@
 use mathlib.Core.Bool.{Bool, true, false}
 use mathlib.Core.List.{List, [], _∷_, _++_}
 use Prim.Native.Nat.{ℕ}
-use Rattle.ring.specs.Table.{gone}
-use Rattle.ring.specs.Trail.{recordOf}
+use Rattle.turn.specs.Table.{gone}
+use Rattle.trail.specs.Trail.{recordOf}
 use Rattle.ring.specs.Refusals.{within, outside}
-use Rattle.ring.specs.declared.table.Cause.{Cause}
-use Rattle.ring.specs.declared.table.Cause.the-variants.{A, B, C, D, E}
+use Rattle.turn.specs.declared.Cause.{Cause}
+use Rattle.turn.specs.declared.Cause.the-variants.{A, B, C, D, E}
 use Rattle.limits.specs.Refusals.{refused}
 use Rattle.steps.specs.Run.{quiet, sendFault, missedBy}
 use Rattle.reference_runs.specs.Outcome.{Given, stepped, read, Held, Outcome, came, told}

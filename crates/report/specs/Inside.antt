@@ -4,7 +4,7 @@ use mathlib.Core.Path.{_≡_}
 use Prim.Native.Nat.{ℕ, _+_, _*_, _≤_}
 use lib.ListN.{length}
 use Rattle.limits.specs.Limits.{seatsMost, roomMost}
-use Rattle.ring.specs.Trail.{width}
+use Rattle.trail.specs.Trail.{width}
 use Rattle.ring.specs.declared.Ring.{Ring}
 use Rattle.run.specs.Outcome.{Result, said}
 use Rattle.run.specs.declared.Ran.{Ran}

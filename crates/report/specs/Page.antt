@@ -5,8 +5,9 @@ use Prim.Native.Nat.{ℕ, _+_, _*_}
 use lib.ListN.{getD}
 use Rattle.lists.specs.Counted.{joined}
 use Rattle.seats.specs.Sets.{sizeOf}
-use Rattle.ring.specs.Ring.{seatOf, out}
-use Rattle.ring.specs.Trail.{width}
+use Rattle.turn.specs.Turn.{out}
+use Rattle.ring.specs.Ring.{seatOf}
+use Rattle.trail.specs.Trail.{width}
 use Rattle.ring.specs.Refusals.{within, outside, unfit}
 use Rattle.ring.specs.declared.Ring.{Ring}
 use Rattle.text.specs.Ascii.{space, lineFeed}

@@ -7,7 +7,7 @@ use lib.Dec.{leb}
 use lib.ListN.{length, take, replicate}
 use Rattle.lists.specs.Put.{put}
 use Rattle.limits.specs.Limits.{roomMost}
-use Rattle.ring.specs.Trail.{width}
+use Rattle.trail.specs.Trail.{width}
 use Rattle.run.specs.Run.{runOf}
 use Rattle.report.specs.Page.{pageOf}
 

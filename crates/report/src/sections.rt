@@ -2,7 +2,7 @@
 ghost use Prim.Native.Nat.{_+_, _*_, _≤_};
 ghost use lib.ListN.{length};
 ghost use Rattle.limits.specs.Limits.{seatsMost};
-ghost use Rattle.ring.specs.Trail.{width};
+ghost use Rattle.trail.specs.Trail.{width};
 ghost use Rattle.report.specs.Page.{recordLine, seatLine, section, busLine, pageOf};
 ghost use Rattle.report.specs.Promise.{pageMost};
 ghost use Rattle.report.specs.Inside.{countMost, recordMost, seatMost, upToFaults, upToFaultsMost, Writes, Holds, resultOf};

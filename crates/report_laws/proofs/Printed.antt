@@ -5,8 +5,8 @@ use Prim.Native.Nat.{ℕ, _+_, _*_, _/_, _%_}
 use native.Mathlib.Omega.{arith}
 use lib.ListN.{length, getD}
 use lib.Seq.{getD-append-add}
-use Rattle.ring.specs.Table.{Gone}
-use Rattle.ring.specs.Trail.{width, letterOf, recordOf}
+use Rattle.turn.specs.Table.{Gone}
+use Rattle.trail.specs.Trail.{width, letterOf, recordOf}
 use Rattle.text.specs.Decimal.{decimal}
 use Rattle.report.specs.Page.{lineOf, byteOf, recordLine}
 

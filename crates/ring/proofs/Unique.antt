@@ -6,19 +6,19 @@ use Prim.Native.Nat.{ℕ}
 use native.Mathlib.Omega.{arith}
 use Rattle.limits.proofs.Refusals.{one-reason}
 use Rattle.limits.specs.Refusals.{numberOf}
-use Rattle.ring.specs.Refusals.{told, found}
+use Rattle.ring.specs.Refusals.{stepTells, found}
 use Rattle.ring.specs.Promise.{ZeroPromise, FreshPromise, StepPromise, VerdictPromise}
 use Rattle.ring.specs.declared.Ring.{Ring}
 use Rattle.ring.specs.declared.Stepped.{Stepped}
 use Rattle.ring.specs.declared.Judged.{Judged}
-use Rattle.ring.specs.declared.Answer.{Answer}
-use Rattle.ring.specs.declared.Answer.the-variants as answers
+use Rattle.ring.specs.declared.StepAnswer.{StepAnswer}
+use Rattle.ring.specs.declared.StepAnswer.the-variants as answers
 use Rattle.ring.specs.declared.Verdict.{Verdict}
 use Rattle.ring.specs.declared.Verdict.the-variants as verdicts
 
 -- ---- answers that say the same are the same
 
-one-answer : (a b : Answer) → told a ≡ told b → a ≡ b
+one-answer : (a b : StepAnswer) → stepTells a ≡ stepTells b → a ≡ b
 one-answer answers.Taken answers.Taken e = refl
 one-answer answers.Taken (answers.Refused y q) e = let z : _≡_ {A = ℕ} 0 1 = cc in absurd (omega arith)
 one-answer (answers.Refused x p) answers.Taken e = let z : _≡_ {A = ℕ} 0 1 = cc in absurd (omega arith)
@@ -44,7 +44,7 @@ one-verdict (verdicts.Refused x p) (verdicts.Refused y q) e =
 -- ---- the promises
 
 same-stepped : {s s′ : Stepped} → s .answer ≡ s′ .answer → s .ring ≡ s′ .ring → s ≡ s′
-same-stepped a r = ap₂ (λ (x : Answer) (y : Ring). record { answer = x; ring = y }) a r
+same-stepped a r = ap₂ (λ (x : StepAnswer) (y : Ring). record { answer = x; ring = y }) a r
 
 pub one-zero : (r r′ : Ring) → ZeroPromise r → ZeroPromise r′ → r ≡ r′
 one-zero r r′ a b = a .ring ∙ sym (b .ring)

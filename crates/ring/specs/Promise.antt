@@ -7,7 +7,7 @@ use lib.ListN.{length}
 use Rattle.limits.specs.Refusals.{onDone}
 use Rattle.ring.specs.Ring.{zeroRing, freshRing}
 use Rattle.ring.specs.Step.{slotOf, ringAfter, trailAfter}
-use Rattle.ring.specs.Refusals.{told, found, freshTold, stepTold, verdictFound}
+use Rattle.ring.specs.Refusals.{stepTells, found, freshTold, stepTold, verdictFound}
 use Rattle.ring.specs.declared.Ring.{Ring}
 use Rattle.ring.specs.declared.Stepped.{Stepped}
 use Rattle.ring.specs.declared.Judged.{Judged}
@@ -25,12 +25,12 @@ pub record ZeroPromise (r : Ring) : Type 0 where
 
 -- a fresh ring, or the zero ring where it is refused
 pub record FreshPromise (n : ℕ) (s : Stepped) : Type 0 where
-  pub answer : told (s .answer) ≡ freshTold n
+  pub answer : stepTells (s .answer) ≡ freshTold n
   pub ring : s .ring ≡ onDone (freshTold n) (freshRing n) zeroRing
 
 -- a step taken, with its records; or, refused, the ring as it came and the trail left alone
 pub record StepPromise (r : Ring) (send : Bool) (receive : ℕ) (t : List ℕ) (s : Stepped) (t′ : List ℕ) : Type 0 where
-  pub answer : told (s .answer) ≡ stepTold r send receive (length t)
+  pub answer : stepTells (s .answer) ≡ stepTold r send receive (length t)
   pub ring : s .ring ≡ ringOf r send receive t
   pub trail : t′ ≡ trailOf r send receive t
 

@@ -2,26 +2,27 @@
 use mathlib.Core.Bool.{Bool, cond, not, _&&_}
 use Prim.Native.Nat.{ℕ, _+_}
 use lib.Dec.{leb, ltb, eqb}
-use Rattle.limits.specs.Limits.{slotsMost, roomMost}
+use Rattle.limits.specs.Limits.{slotsMost, roomMost, seatsStand}
 use Rattle.limits.specs.Refusals.{numberOf, Told, done, refused}
 use Rattle.limits.specs.declared.Refusal.the-variants.{WrongMark, NoRoom, AtTheEnd, NotARing}
 use Rattle.seats.specs.Sets.{hasSeat, fullSet}
-use Rattle.ring.specs.Ring.{seatsStand, isRing}
+use Rattle.terms.specs.Terms.{firstFailing}
+use Rattle.trail.specs.Trail.{roomFor}
+use Rattle.turn.specs.declared.Slot.{Slot}
+use Rattle.ring.specs.Ring.{isRing}
 use Rattle.ring.specs.Step.{slotOf, countIn}
-use Rattle.ring.specs.Terms.{firstFailing}
-use Rattle.ring.specs.Trail.{roomFor}
 use Rattle.ring.specs.declared.Ring.{Ring}
-use Rattle.ring.specs.declared.slot.Slot.{Slot}
-use Rattle.ring.specs.declared.Answer.{Answer}
-use Rattle.ring.specs.declared.Answer.the-variants as answers
+use Rattle.ring.specs.declared.StepAnswer.{StepAnswer}
+use Rattle.ring.specs.declared.StepAnswer.the-variants as answers
 use Rattle.ring.specs.declared.Verdict.{Verdict}
 use Rattle.ring.specs.declared.Verdict.the-variants as verdicts
 
 -- ---- what each answer says
 
-abbrev pub told : Answer → Told
-told answers.Taken = done
-told (answers.Refused why place) = refused (numberOf why) place
+-- a step's, or a fresh ring's
+abbrev pub stepTells : StepAnswer → Told
+stepTells answers.Taken = done
+stepTells (answers.Refused why place) = refused (numberOf why) place
 
 -- a verdict: within, outside T, or refused
 pub data Finding : Type 0 where
@@ -58,6 +59,7 @@ stepTold r send receive bytes =
 -- the verdict on a ring, whose room is 1,024 as no buffer is lent
 unfoldable pub verdictFound : Ring → Finding
 verdictFound r =
+    let first = firstFailing (r .n) (r .faults) (r .time) in
     cond (isRing r roomMost)
-    (cond (ltb (firstFailing r) (r .time)) (outside (firstFailing r)) within)
+    (cond (ltb first (r .time)) (outside first) within)
     (unfit (numberOf NotARing) 0)

@@ -4,13 +4,13 @@ use mathlib.Core.List.{_++_}
 use Prim.Native.Nat.{ℕ, _%_}
 use lib.Dec.{leb, ltb, eqb}
 use lib.ListN.{getD, drop, replicate}
-use Rattle.limits.specs.Limits.{seatsLeast, seatsMost, slotsMost}
+use Rattle.limits.specs.Limits.{seatsMost, slotsMost, seatsStand}
 use Rattle.lists.specs.Counted.{tab, allBelow}
-use Rattle.seats.specs.Sets.{hasSeat, fullSet}
+use Rattle.seats.specs.Sets.{fullSet}
 use Rattle.ring.specs.declared.Ring.{Ring}
-use Rattle.ring.specs.declared.slot.Seat.{Seat}
+use Rattle.turn.specs.declared.Seat.{Seat}
 
--- seat p of the ring. Its first fault is kept as its time plus one, and 0 is none
+-- seat p of the ring
 abbrev pub seatOf : Ring → ℕ → Seat
 seatOf r p = record {
   set = getD (r .sets) p 0;
@@ -22,14 +22,6 @@ seatOf r p = record {
 -- the owner of the slot
 abbrev pub ownerOf : Ring → ℕ
 ownerOf r = r .time % r .n
-
--- a seat outside its own set is out
-abbrev pub out : ℕ → Seat → Bool
-out p s = not (hasSeat (s .set) p)
-
--- a seat is sound before its first fault
-abbrev pub sound : Seat → Bool
-sound s = eqb (s .fault) 0
 
 -- ---- the zero ring and a fresh ring
 
@@ -72,10 +64,6 @@ freshRing n = withCounts (drawnTo n zeroRing (λ p. freshSeat n)) n 0 0
 
 -- ---- what is a ring
 
--- n is from 2 to 32
-abbrev pub seatsStand : ℕ → Bool
-seatsStand n = leb seatsLeast n && leb n seatsMost
-
 -- a seat below n: no seat n or above in its set, and a first fault only before the time
 abbrev pub memberStands : ℕ → ℕ → Seat → Bool
 memberStands n time s = leb (s .set) (fullSet n) && leb (s .fault) time
@@ -90,6 +78,6 @@ seatStands n time p s = cond (ltb p n) (memberStands n time s) (absentStands s)
 unfoldable pub everySeatStands : Ring → Bool
 everySeatStands r = allBelow seatsMost (λ p. seatStands (r .n) (r .time) p (seatOf r p))
 
--- not a ring otherwise, and not where it has more records than the room
+-- n is from 2 to 32 and the time at most 4,096; not a ring otherwise, and not where it has more records than the room
 unfoldable pub isRing : Ring → ℕ → Bool
 isRing r room = seatsStand (r .n) && leb (r .time) slotsMost && leb (r .records) room && everySeatStands r

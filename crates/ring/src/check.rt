@@ -3,8 +3,8 @@ ghost use mathlib.Core.Path.{_≡_};
 ghost use Rattle.ring.specs.Ring.{memberStands, absentStands, seatStands, everySeatStands, isRing};
 ghost use Rattle.ring.specs.Refusals.{marksStand};
 use crate::Ring;
-use crate::slot::Seat;
-use crate::slot::Slot;
+use turn::Seat;
+use turn::Slot;
 
 // A seat that the ring has.
 fn member_stands(s: Seat, n: usize, time: u16) -> bool
@@ -81,7 +81,7 @@ pub fn is_ring(ring: Ring, room: usize) -> bool
     if limits::SEATS_MOST < ring.n {
         return false;
     }
-    if limits::SLOTS_MOST < ring.time {
+    if limits::SLOTS_MOST < (ring.time as usize) {
         return false;
     }
     if room < (ring.records as usize) {

@@ -1,19 +1,13 @@
 // The membership engine: a ring of modules, stepped slot by slot, with its trail and its verdict.
 ghost use mathlib.Core.Path.{_≡_};
-ghost use Rattle.ring.specs.declared.Answer.the-variants.{Taken, Refused};
+ghost use Rattle.ring.specs.declared.StepAnswer.the-variants.{Taken, Refused};
 ghost use Rattle.ring.specs.Promise.{ZeroPromise, FreshPromise, StepPromise, VerdictPromise};
 use limits::Refusal;
+use turn::Slot;
 
-mod check;
-mod draw;
-mod record;
-mod slot;
-mod start;
-mod table;
-mod terms;
-
-// A record's bytes: time low, time high, holder, removed seat, cause.
-pub const WIDTH: usize = 5;
+mod check; // check.rt: what is a ring, and which receive marks stand
+mod draw; // draw.rt: the step's two passes over the seats
+mod start; // start.rt: the zero ring and a fresh one
 
 // The whole ring is one value. A first fault is kept as its time plus one, and 0 is none.
 pub struct Ring {
@@ -27,13 +21,13 @@ pub struct Ring {
 }
 
 // How a fresh ring or a step was answered; a refusal has its place.
-pub enum Answer {
+pub enum StepAnswer {
     Taken,
-    Refused(Refusal, u16),
+    Refused(Refusal, usize),
 }
 
 pub struct Stepped {
-    pub answer: Answer,
+    pub answer: StepAnswer,
     pub ring: Ring,
 }
 
@@ -41,7 +35,7 @@ pub struct Stepped {
 pub enum Verdict {
     Within,
     Outside(u16),
-    Refused(Refusal, u16),
+    Refused(Refusal, usize),
 }
 
 pub struct Judged {
@@ -49,11 +43,11 @@ pub struct Judged {
     pub ring: Ring,
 }
 
-fn refused(why: Refusal, place: u16, ring: Ring) -> Stepped
+fn refused(why: Refusal, place: usize, ring: Ring) -> Stepped
     ensures { λ s. ⌜ s ≡ record { answer = Refused why place; ring = ring } ⌝ }
 {
     Stepped {
-        answer: Answer::Refused(why, place),
+        answer: StepAnswer::Refused(why, place),
         ring,
     }
 }
@@ -62,7 +56,7 @@ fn taken(ring: Ring) -> Stepped
     ensures { λ s. ⌜ s ≡ record { answer = Taken; ring = ring } ⌝ }
 {
     Stepped {
-        answer: Answer::Taken,
+        answer: StepAnswer::Taken,
         ring,
     }
 }
@@ -94,18 +88,24 @@ impl Ring {
     pub fn step(self, send: bool, receive: u32, trail: &mut [u8]) -> Stepped
         ensures { λ s. ⌜ StepPromise self send receive (now (trail .entry)) s (now (trail .exit)) ⌝ }
     {
-        let room = record::room_for(trail.len());
-        let time = self.time;
+        let room = trail::room_for(trail.len());
         if !check::is_ring(self, room) {
             return refused(Refusal::NotARing, 0, self);
         }
         let n = self.n;
-        let owner = (time as usize) % n;
+        let time = self.time as usize;
+        let owner = time % n;
         let sets = self.sets;
         let set = sets[owner];
         let acks = self.acks;
         let ack = acks[owner];
-        let slot = slot::slot_for(owner, set, ack, send, receive, time);
+        let slot = Slot {
+            owner,
+            spoken: turn::speak(owner, set, ack, send),
+            send,
+            receive,
+            since: self.time + 1,
+        };
         if !check::marks_stand(slot, n) {
             return refused(Refusal::WrongMark, time, self);
         }
@@ -119,12 +119,12 @@ impl Ring {
             return refused(Refusal::NoRoom, time, self);
         }
         let mut next = drawn.ring;
-        next.time = time + 1;
+        next.time = slot.since;
         next.records = total as u16;
         if drawn.count == 0 {
             return taken(next);
         }
-        draw::write(self, slot, trail, records);
+        draw::write(self, slot, trail);
         taken(next)
     }
 
@@ -139,15 +139,16 @@ impl Ring {
             };
         }
         let faults = self.faults;
-        let first = terms::first_failing(faults, self.n);
-        if first == 0 {
+        let time = self.time;
+        let first = terms::first_failing(faults, self.n, time);
+        if first < time {
             return Judged {
-                verdict: Verdict::Within,
+                verdict: Verdict::Outside(first),
                 ring: self,
             };
         }
         Judged {
-            verdict: Verdict::Outside(first - 1),
+            verdict: Verdict::Within,
             ring: self,
         }
     }

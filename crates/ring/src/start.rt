@@ -1,6 +1,7 @@
 // The rings that a run starts from: the zero ring and a fresh one.
 ghost use mathlib.Core.Path.{_≡_};
 ghost use Prim.Native.Nat.{_≤_};
+ghost use Rattle.limits.specs.Limits.{seatsMost};
 ghost use Rattle.ring.specs.Ring.{zeroRing, freshRing};
 use crate::Ring;
 
@@ -20,7 +21,7 @@ pub fn zero_ring() -> Ring
 
 // Every seat in every set of the n seats, and every acknowledgement true.
 pub fn fresh_ring(n: usize) -> Ring
-    requires { ⌜ n ≤ 32 ⌝ }
+    requires { ⌜ n ≤ seatsMost ⌝ }
     ensures { λ r. ⌜ r ≡ freshRing n ⌝ }
 {
     let full = seats::full(n);

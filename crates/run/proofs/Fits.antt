@@ -9,9 +9,9 @@ use Rattle.limits.specs.Refusals.{numberOf}
 use Rattle.lists.specs.Counted.{tab}
 use Rattle.limits.specs.declared.Refusal.{Refusal}
 use Rattle.ring.specs.Ring.{zeroRing}
-use Rattle.ring.specs.Trail.{width}
+use Rattle.trail.specs.Trail.{width}
 use Rattle.ring.specs.declared.Ring.{Ring}
-use Rattle.steps.proofs.After.{room-bytes}
+use Rattle.trail.proofs.RecordLaws.{room-bytes}
 use Rattle.steps.specs.Run.{start}
 use Rattle.steps.proofs.Reached.{Stands, reached-stands, run-reached}
 use Rattle.sheet.specs.Good.{GoodSheet}

@@ -10,7 +10,7 @@ use borrow.Author.Tests.{eq-eqb, ne-eqb, le-leb}
 use Rattle.limits.specs.Refusals as limits
 use Rattle.ring.specs.Ring.{seatOf, ownerOf, freshRing}
 use Rattle.ring.specs.Step.{slotOf}
-use Rattle.ring.specs.Refusals.{told}
+use Rattle.ring.specs.Refusals.{stepTells}
 use Rattle.ring.specs.Promise.{FreshPromise, StepPromise}
 use Rattle.ring.specs.declared.Ring.{Ring}
 use Rattle.ring.specs.declared.Stepped.{Stepped}
@@ -142,7 +142,7 @@ module _ {sheet : Sheet} {all : Result} {trail : List ℕ} {r : Ring} {g : Gathe
       alike : eqb (spokenOn (marksOn sheet b) b) (heardOn sheet b) ≡ true
       alike = eq-eqb (spokenOn (marksOn sheet b) b) (heardOn sheet b) (heard ∙ line)
 
-      answered : told (s .answer) ≡ toldOn (marksOn sheet b) b
+      answered : stepTells (s .answer) ≡ toldOn (marksOn sheet b) b
       answered = p .answer ∙ ap (λ (m : Marks). toldOn m b) marks-given
 
       stepped : bench (s .ring) t′ ≡ stepOn (marksOn sheet b) b
@@ -151,13 +151,13 @@ module _ {sheet : Sheet} {all : Result} {trail : List ℕ} {r : Ring} {g : Gathe
       pub going-length : length t′ ≡ length trail
       going-length = ap (λ (x : Bench). length (x .trail)) stepped ∙ step-length (marksOn sheet b) b
 
-      pub going-stops : {number place : ℕ} → told (s .answer) ≡ limits.refused number place → all ≡ ends sheet (bench (s .ring) t′) (refused number place)
+      pub going-stops : {number place : ℕ} → stepTells (s .answer) ≡ limits.refused number place → all ≡ ends sheet (bench (s .ring) t′) (refused number place)
       going-stops {number} {place} e =
           let q = sym answered ∙ e in
           sym from ∙ run-stops sheet b left alike q
           ∙ ap (λ (x : Bench). ends sheet x (refused number place)) (sym (stepped ∙ step-refused (marksOn sheet b) b q))
 
-      pub going-on : told (s .answer) ≡ limits.done → Going sheet all t′ (s .ring) (slotOver g) (at + 1)
+      pub going-on : stepTells (s .answer) ≡ limits.done → Going sheet all t′ (s .ring) (slotOver g) (at + 1)
       unfolding left
       going-on e =
           let q = sym answered ∙ e in

@@ -9,7 +9,7 @@ use Rattle.limits.specs.Refusals.{numberOf, Told}
 use Rattle.ring.specs.Ring.{zeroRing}
 use Rattle.ring.specs.Step.{slotOf}
 use Rattle.ring.specs.Refusals.{verdictFound}
-use Rattle.ring.specs.declared.slot.Slot.{Slot}
+use Rattle.turn.specs.declared.Slot.{Slot}
 use Rattle.steps.specs.Run.{Marks, Bench, toldOn, stepOn, freshBench}
 use Rattle.sheet_lines.specs.Found.{onFound}
 use Rattle.sheet_lines.specs.Bytes.{heardOne, heardZero, heardSilence}

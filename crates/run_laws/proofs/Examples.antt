@@ -5,8 +5,8 @@ use mathlib.Core.List.{List, [], _∷_, _++_}
 use Prim.Native.Nat.{ℕ}
 use lib.ListN.{take, replicate}
 use Rattle.ring.specs.Ring.{freshRing, zeroRing, isRing, everySeatStands}
-use Rattle.ring.specs.Step.{turnOf}
-use Rattle.ring.specs.Terms.{termsHold, firstFailing}
+use Rattle.turn.specs.Turn.{turnOf}
+use Rattle.terms.specs.Terms.{termsHold, firstFailing}
 use Rattle.ring.specs.Refusals.{within, stepTold, verdictFound}
 use Rattle.ring.specs.Promise.{ringOf, trailOf}
 use Rattle.sheet_lines.specs.Bytes.{byteAt, digitsAt, numberAt}

@@ -7,10 +7,10 @@ use Prim.Native.Nat.{ℕ}
 use native.Mathlib.Omega.{arith}
 use lib.Dec.{ltb}
 use Rattle.ring.specs.Ring.{isRing}
-use Rattle.ring.specs.Terms.{firstFailing}
+use Rattle.terms.specs.Terms.{firstFailing}
 use Rattle.ring.specs.Refusals.{Finding, within, outside, unfit, verdictFound}
 use Rattle.ring.specs.declared.Ring.{Ring}
-use Rattle.steps.proofs.Valid.{valid-ring, valid-wider}
+use Rattle.ring.proofs.Checked.{valid-ring, valid-wider}
 use Rattle.sheet.specs.Good.{GoodSheet}
 use Rattle.sheet.specs.declared.Sheet.{Sheet}
 use Rattle.run.specs.Outcome.{Heard, Outcome, ran, Result}

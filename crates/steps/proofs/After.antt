@@ -7,14 +7,15 @@ use native.Mathlib.Nat.{le-refl}
 use native.Mathlib.Omega.{arith}
 use lib.ListN.{length}
 use Rattle.ring.specs.Ring.{seatOf}
-use Rattle.ring.specs.Step.{slotOf, turnAt, turnOf, countIn, ringAfter, trailAfter}
-use Rattle.ring.specs.Trail.{width, roomFor}
+use Rattle.turn.specs.Turn.{turnOf}
+use Rattle.ring.specs.Step.{slotOf, turnAt, countIn, ringAfter, trailAfter}
+use Rattle.trail.specs.Trail.{width, roomFor}
 use Rattle.ring.proofs.Records.{length-written}
 use Rattle.ring.specs.declared.Ring.{Ring}
-use Rattle.ring.specs.declared.slot.Slot.{Slot}
-use Rattle.steps.proofs.Valid.{Valid, Member}
+use Rattle.turn.specs.declared.Slot.{Slot}
+use Rattle.ring.proofs.Checked.{Valid, Member}
 use Rattle.steps.proofs.Drawn.{drawn-seat, undrawn-seat}
-use Rattle.steps.proofs.Turn.{set-le, fault-by}
+use Rattle.turn.proofs.TurnLaws.{set-le, fault-by}
 
 -- ---- the seats
 
@@ -33,10 +34,6 @@ module _ (r : Ring) (c : Slot) where
 pub length-after : (r : Ring) (c : Slot) (t : List ℕ) → width * (r .records + countIn r c) ≤ length t → length (trailAfter r c t) ≡ length t
 length-after r c t l = length-written r c t (width * r .records) (omega arith) (r .n) (le-refl (r .n))
 
--- records within the room have their bytes in the buffer
-pub room-bytes : (k bytes : ℕ) → k ≤ roomFor bytes → width * k ≤ bytes
-room-bytes k bytes l = omega arith
-
 -- ---- a ring leads to a ring
 
 pub valid-after : (r : Ring) (send : Bool) (receive room : ℕ) → Valid r room → r .time < 4096
@@ -51,7 +48,8 @@ valid-after r send receive room v early fit =
       member = λ p l.
           let m = v .member p l in
           let s = set-le c p (seatOf r p) in
-          let f = fault-by c p (seatOf r p) (m .past) in
+          let q = m .past in
+          let f = fault-by c p (seatOf r p) (omega arith) in
           let i = m .inside in
           let n : Member (r .n) (r .time + 1) (turnAt r c p .seat) = record { inside = omega arith; past = f } in
           rw (seat-after r c p l) n;

@@ -5,7 +5,7 @@ use Prim.Native.Nat.{ℕ, _≤_, _<_}
 use Rattle.lists.proofs.Counted.{drawn-below, drawn-above}
 use Rattle.ring.specs.Ring.{seatOf, drawnTo}
 use Rattle.ring.specs.declared.Ring.{Ring}
-use Rattle.ring.specs.declared.slot.Seat.{Seat}
+use Rattle.turn.specs.declared.Seat.{Seat}
 
 module _ (k : ℕ) (r : Ring) (seat : ℕ → Seat) (p : ℕ) where
   pub drawn-seat : p < k → seatOf (drawnTo k r seat) p ≡ seat p

@@ -13,12 +13,13 @@ use Rattle.lists.proofs.Counted.{getD-alike}
 use Rattle.seats.proofs.Sets.{full-is}
 use Rattle.ring.specs.Ring.{seatOf, noSeat, freshSeat, zeroRing, freshRing}
 use Rattle.ring.specs.Step.{slotOf, ringAfter, trailAfter}
-use Rattle.ring.specs.Trail.{roomFor}
+use Rattle.trail.specs.Trail.{roomFor}
 use Rattle.steps.specs.Run.{Marks, Bench, toldOn, stepOn, freshBench, Reached, start, taken, runOn}
-use Rattle.steps.proofs.Valid.{Valid, Member}
+use Rattle.ring.proofs.Checked.{Valid, Member}
 use Rattle.steps.proofs.Drawn.{drawn-seat, undrawn-seat}
 use Rattle.steps.proofs.Taken.{told-is, told-taken, refused-ring, refused-trail, taken-ring, taken-trail}
-use Rattle.steps.proofs.After.{valid-after, length-after, room-bytes}
+use Rattle.trail.proofs.RecordLaws.{room-bytes}
+use Rattle.steps.proofs.After.{valid-after, length-after}
 
 -- ---- a fresh ring
 

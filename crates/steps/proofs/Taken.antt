@@ -14,12 +14,12 @@ use Rattle.seats.specs.Sets.{hasSeat, fullSet}
 use Rattle.seats.proofs.Sets.{below-full, full-is}
 use Rattle.ring.specs.Ring.{ownerOf, isRing}
 use Rattle.ring.specs.Step.{slotOf, countIn, ringAfter, trailAfter}
-use Rattle.ring.specs.Trail.{roomFor}
+use Rattle.trail.specs.Trail.{roomFor}
 use Rattle.ring.specs.Refusals.{marksStand, stepTold}
 use Rattle.ring.specs.Promise.{ringOf, trailOf}
 use Rattle.ring.proofs.Refusing.{all-checked}
 use Rattle.ring.specs.declared.Ring.{Ring}
-use Rattle.steps.proofs.Valid.{Valid, ring-valid, valid-ring}
+use Rattle.ring.proofs.Checked.{Valid, ring-valid, valid-ring}
 
 -- a step that is taken, with a trail of so many bytes
 pub record Taken (r : Ring) (send : Bool) (receive bytes : ℕ) : Type 0 where

@@ -36,6 +36,6 @@ is-ring-spec =
     (tie.spec
     returns
     returns-2
-    returns-3
+    (λ c. search needs) returns-3
     (λ c. search needs) returns-4
     (λ c κs. search needs) returns-5)

@@ -1,0 +1,2 @@
+-- The files of laws of the fault terms.
+pub mod Found
