@@ -1,6 +1,6 @@
 -- The run of a sheet from a slot on: how it ends there or goes on, and that what is left comes to the same as all did. Assumes nothing.
 use mathlib.Core.Path.{_≡_, refl, sym, ap, ap₂, _∙_}
-use mathlib.Core.Bool.{Bool, true, false, cond}
+use mathlib.Core.Bool.{Bool, true, false}
 use mathlib.Core.List.{List}
 use Prim.Native.Nat.{ℕ, zero, suc, _+_, _-_, _%_, _≤_, _<_}
 use native.Mathlib.Omega.{arith}
@@ -8,26 +8,24 @@ use lib.Dec.{eqb}
 use lib.ListN.{length}
 use borrow.Author.Tests.{eq-eqb, ne-eqb, le-leb}
 use Rattle.limits.specs.Refusals as limits
+use Rattle.turn.specs.Turn.{spokenBy}
 use Rattle.ring.specs.Ring.{seatOf, ownerOf, freshRing}
-use Rattle.ring.specs.Step.{slotOf}
 use Rattle.ring.specs.Refusals.{stepTells}
 use Rattle.ring.specs.Promise.{FreshPromise, StepPromise}
 use Rattle.ring.specs.declared.Ring.{Ring}
 use Rattle.ring.specs.declared.Stepped.{Stepped}
 use Rattle.steps.specs.Run.{Marks, Bench, toldOn, stepOn, freshBench}
-use Rattle.steps.proofs.Seen.{speaks-is}
 use Rattle.steps.proofs.Reached.{fresh-n, fresh-time, step-after, step-refused, step-length}
-use Rattle.sheet_lines.specs.Bytes.{heardOne, heardZero, heardSilence}
 use Rattle.sheet.specs.Good as sheets
 use Rattle.sheet.specs.Good.{GoodSheet}
 use Rattle.sheet.specs.declared.Sheet.{Sheet}
 use Rattle.run.specs.Marks.{ownerAt, marksAt}
 use Rattle.run.specs.Outcome.{agrees, differs, Outcome, refused, Result}
-use Rattle.run.specs.Run.{spokenOn, ends, judged, runFrom, runSheet}
-use Rattle.run.specs.Inside.{noneGathered, withMark, slotOver, givenBy, spokenBy, Ended, Leaves}
+use Rattle.run.specs.Run.{heardAs, spokenOn, ends, judged, runFrom, runSheet}
+use Rattle.run.specs.Inside.{noneGathered, withMark, slotOver, givenBy, Ended, Leaves}
 use Rattle.run.specs.declared.Ran.{Ran}
 use Rattle.run.specs.declared.marks.Gathered.{Gathered}
-use Rattle.run.specs.declared.marks.Given.{Given}
+use Rattle.run.specs.declared.marks.SlotMarks.{SlotMarks}
 use Rattle.run.proofs.Gathering.{Gathers, Whole, none-yet, mark-more, next-slot, send-given, receive-given}
 
 abbrev pub bench : Ring → List ℕ → Bench
@@ -103,7 +101,7 @@ module _ {sheet : Sheet} {all : Result} {trail : List ℕ} {r : Ring} {g : Gathe
     abbrev b : Bench
     b = bench r trail
 
-    abbrev given : Given
+    abbrev given : SlotMarks
     given = givenBy g (ownerAt sheet at)
 
     -- the marks gathered are the slot's
@@ -113,12 +111,10 @@ module _ {sheet : Sheet} {all : Result} {trail : List ℕ} {r : Ring} {g : Gathe
         let q = receive-given sheet good at g (go .gathers) whole in
         ap₂ (λ (x : Bool) (y : ℕ). record { send = x; receive = y }) s q ∙ ap (marksAt sheet) (sym (go .time))
 
-    pub spoken-given : spokenBy (seatOf r (ownerAt sheet at) .set) (seatOf r (ownerAt sheet at) .ack) (ownerAt sheet at) (given .send) ≡ spokenOn (marksOn sheet b) b
+    pub spoken-given : heardAs (spokenBy (ownerAt sheet at) (seatOf r (ownerAt sheet at) .set) (seatOf r (ownerAt sheet at) .ack) (given .send)) ≡ spokenOn (marksOn sheet b) b
     spoken-given =
         let o : ownerAt sheet at ≡ ownerOf r = ap₂ (λ (x y : ℕ). x % y) (sym (go .time)) (sym (go .seats)) in
-        ap (λ (k : ℕ). spokenBy (seatOf r k .set) (seatOf r k .ack) k (given .send)) o
-        ∙ ap (λ (x : Bool). cond x (cond (seatOf r (ownerOf r) .ack) heardOne heardZero) heardSilence) (sym (speaks-is r (given .send) (given .receive)))
-        ∙ ap (λ (m : Marks). spokenOn m b) marks-given
+        ap (λ (k : ℕ). heardAs (spokenBy k (seatOf r k .set) (seatOf r k .ack) (given .send))) o ∙ ap (λ (m : Marks). spokenOn m b) marks-given
 
     left : ℕ
     left = sheet .«slot_count» - (at + 1)

@@ -1,5 +1,4 @@
 -- What the run's inner functions promise. A reader of the promise of `run` needs none of it.
-use mathlib.Core.Bool.{Bool, cond, not, _&&_}
 use mathlib.Core.List.{List}
 use mathlib.Core.Path.{_≡_}
 use Prim.Native.Nat.{ℕ, _+_}
@@ -8,12 +7,12 @@ use lib.Dec.{eqb}
 use Rattle.seats.specs.Sets.{hasSeat, withoutSeat}
 use Rattle.seats.specs.Joined.{added}
 use Rattle.ring.specs.declared.Ring.{Ring}
-use Rattle.sheet_lines.specs.Bytes.{send, receive, dark, heardOne, heardZero, heardSilence}
+use Rattle.sheet_lines.specs.Bytes.{send, receive, dark}
 use Rattle.sheet.specs.declared.Mark.{Mark}
 use Rattle.run.specs.Outcome.{Outcome, said, Result}
 use Rattle.run.specs.declared.Ran.{Ran}
 use Rattle.run.specs.declared.marks.Gathered.{Gathered}
-use Rattle.run.specs.declared.marks.Given.{Given}
+use Rattle.run.specs.declared.marks.SlotMarks.{SlotMarks}
 
 -- ---- the marks gathered
 
@@ -31,14 +30,10 @@ withMark g m = record {
 abbrev pub slotOver : Gathered → Gathered
 slotOver g = record { next = g .next; send = 0; receive = 0; dark = g .dark }
 
-abbrev pub givenBy : Gathered → ℕ → Given
+abbrev pub givenBy : Gathered → ℕ → SlotMarks
 givenBy g owner = record { send = hasSeat (bitOr (g .send) (g .dark)) owner; receive = withoutSeat (bitOr (g .receive) (g .dark)) owner }
 
--- ---- the slots
-
--- what an owner with this set and acknowledgement speaks
-abbrev pub spokenBy : ℕ → Bool → ℕ → Bool → ℕ
-spokenBy set ack owner marked = cond (hasSeat set owner && not marked) (cond ack heardOne heardZero) heardSilence
+-- ---- the run's value
 
 -- a run's value has this outcome, this ring and these modules
 pub record Ended (o : Outcome) (last : Ring) (ms : List ℕ) (r : Ran) : Type 0 where

@@ -6,8 +6,8 @@ use Rattle.ring.specs.Refusals.{Finding, found}
 use Rattle.ring.specs.declared.Ring.{Ring}
 use Rattle.run.specs.declared.Bus.{Bus}
 use Rattle.run.specs.declared.Bus.the-variants.{Agrees, Differs}
-use Rattle.run.specs.declared.Answer.{Answer}
-use Rattle.run.specs.declared.Answer.the-variants.{Ran, Refused}
+use Rattle.run.specs.declared.RunAnswer.{RunAnswer}
+use Rattle.run.specs.declared.RunAnswer.the-variants.{Ran, Refused}
 
 -- the bus agrees, or differs first in slot T
 pub data Heard : Type 0 where
@@ -23,7 +23,7 @@ abbrev pub heard : Bus → Heard
 heard Agrees = agrees
 heard (Differs t) = differs t
 
-abbrev pub said : Answer → Outcome
+abbrev pub said : RunAnswer → Outcome
 said (Ran bus verdict) = ran (heard bus) (found verdict)
 said (Refused why place) = refused (numberOf why) place
 

@@ -1,5 +1,5 @@
 -- The run of a sheet, document 01: a fresh ring stepped through the slots, the bus compared before each step.
-use mathlib.Core.Bool.{cond}
+use mathlib.Core.Bool.{true, false, cond}
 use mathlib.Core.List.{List}
 use mathlib.Core.Path.{_≡_}
 use Prim.Native.Nat.{ℕ, zero, suc}
@@ -9,7 +9,8 @@ use Rattle.limits.specs.Refusals.{numberOf, Told}
 use Rattle.ring.specs.Ring.{zeroRing}
 use Rattle.ring.specs.Step.{slotOf}
 use Rattle.ring.specs.Refusals.{verdictFound}
-use Rattle.turn.specs.declared.Slot.{Slot}
+use Rattle.turn.specs.declared.Spoken.{Spoken}
+use Rattle.turn.specs.declared.Spoken.the-variants.{Nothing, Bit}
 use Rattle.steps.specs.Run.{Marks, Bench, toldOn, stepOn, freshBench}
 use Rattle.sheet_lines.specs.Found.{onFound}
 use Rattle.sheet_lines.specs.Bytes.{heardOne, heardZero, heardSilence}
@@ -20,13 +21,15 @@ use Rattle.run.specs.Marks.{marksAt}
 use Rattle.run.specs.Outcome.{Heard, agrees, differs, Outcome, ran, refused, said, Result}
 use Rattle.run.specs.declared.Ran.{Ran}
 
--- what the bus recorder hears of a slot: the owner's bit, or silence where it does not speak
-abbrev pub spoken : Slot → ℕ
-spoken c = cond (c .speaks) (cond (c .bit) heardOne heardZero) heardSilence
+-- what the bus recorder hears of what is spoken: the bit, or silence
+abbrev pub heardAs : Spoken → ℕ
+heardAs Nothing = heardSilence
+heardAs (Bit true) = heardOne
+heardAs (Bit false) = heardZero
 
--- what the owner of the ring's slot speaks, with these marks
+-- and of the owner of the ring's slot, with these marks
 abbrev pub spokenOn : Marks → Bench → ℕ
-spokenOn m b = spoken (slotOf (b .ring) (m .send) (m .receive))
+spokenOn m b = heardAs (slotOf (b .ring) (m .send) (m .receive) .spoken)
 
 -- a run that ends here, with the ring after the last step taken and the records up to it
 abbrev pub ends : Sheet → Bench → Outcome → Result

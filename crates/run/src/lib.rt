@@ -4,12 +4,14 @@ ghost use Rattle.limits.specs.Refusals.{numberOf};
 ghost use Rattle.ring.specs.Refusals.{verdictFound};
 ghost use Rattle.sheet.specs.Good.{GoodSheet};
 ghost use Rattle.run.specs.Outcome.{heard, ran, refused};
-ghost use Rattle.run.specs.Run.{runSheet, RunPromise};
-ghost use Rattle.run.specs.Inside.{spokenBy, Ended, Leaves};
+ghost use Rattle.run.specs.Run.{heardAs, runSheet, RunPromise};
+ghost use Rattle.turn.specs.Turn.{spokenBy};
+ghost use Rattle.run.specs.Inside.{Ended, Leaves};
 use limits::Refusal;
 use ring::Ring;
 use ring::Verdict;
 use sheet::Sheet;
+use turn::Spoken;
 
 mod marks; // marks.rt: which marks a slot has
 
@@ -20,32 +22,30 @@ pub enum Bus {
 }
 
 // The run to its end or to the first difference, or why it is refused and at which place.
-pub enum Answer {
+pub enum RunAnswer {
     Ran(Bus, Verdict),
     Refused(Refusal, usize),
 }
 
 // The answer, the ring after the last step taken, and the module number of each seat.
 pub struct Ran {
-    pub answer: Answer,
+    pub answer: RunAnswer,
     pub ring: Ring,
     pub modules: [u16; limits::SEATS_MOST],
 }
 
 // What the bus recorder should hear of an owner with this set and acknowledgement.
-fn spoken(set: u32, ack: bool, owner: usize, marked: bool) -> u8
-    ensures { λ r. ⌜ r ≡ spokenBy set ack owner marked ⌝ }
+fn spoken(owner: usize, set: u32, ack: bool, send: bool) -> u8
+    ensures { λ r. ⌜ r ≡ heardAs (spokenBy owner set ack send) ⌝ }
 {
-    if marked {
+    let spoken = turn::speak(owner, set, ack, send);
+    let Spoken::Bit(bit) = spoken else {
         return sheet::HEARD_SILENCE;
+    };
+    if bit {
+        return sheet::HEARD_ONE;
     }
-    if seats::has(set, owner) {
-        if ack {
-            return sheet::HEARD_ONE;
-        }
-        return sheet::HEARD_ZERO;
-    }
-    sheet::HEARD_SILENCE
+    sheet::HEARD_ZERO
 }
 
 // A run that ends with this ring: what the bus showed, and the verdict.
@@ -55,7 +55,7 @@ fn judged(bus: Bus, ring: Ring, modules: [u16; limits::SEATS_MOST]) -> Ran
     let judged = ring.verdict();
     let verdict = judged.verdict;
     Ran {
-        answer: Answer::Ran(bus, verdict),
+        answer: RunAnswer::Ran(bus, verdict),
         ring,
         modules,
     }
@@ -66,7 +66,7 @@ fn refused(why: Refusal, place: usize, ring: Ring, modules: [u16; limits::SEATS_
     ensures { λ r. ⌜ Ended (refused (numberOf why) place) ring modules r ⌝ }
 {
     Ran {
-        answer: Answer::Refused(why, place),
+        answer: RunAnswer::Refused(why, place),
         ring,
         modules,
     }
@@ -94,14 +94,14 @@ fn through(sheet: Sheet, trail: &mut [u8]) -> Ran
         }
         let owner = at % n;
         let given = marks::given_by(gathered, owner);
-        if spoken(ring.sets[owner], ring.acks[owner], owner, given.send) != sheet.slots[at] {
+        if spoken(owner, ring.sets[owner], ring.acks[owner], given.send) != sheet.slots[at] {
             return judged(Bus::Differs(at as u16), ring, modules);
         }
         let stepped = ring.step(given.send, given.receive, trail);
         ring = stepped.ring;
         let answer = stepped.answer;
-        if let ring::Answer::Refused(why, place) = answer {
-            return refused(why, place as usize, ring, modules);
+        if let ring::StepAnswer::Refused(why, place) = answer {
+            return refused(why, place, ring, modules);
         }
         gathered = marks::slot_over(gathered);
         at += 1;

@@ -14,7 +14,7 @@ pub struct Gathered {
 }
 
 // What a step is given: the owner's send mark, and the seats with a receive mark.
-pub struct Given {
+pub struct SlotMarks {
     pub send: bool,
     pub receive: u32,
 }
@@ -66,10 +66,10 @@ pub fn slot_over(g: Gathered) -> Gathered
 }
 
 // A dark seat has a send mark in its own slots and a receive mark in all others.
-pub fn given_by(g: Gathered, owner: usize) -> Given
+pub fn given_by(g: Gathered, owner: usize) -> SlotMarks
     ensures { λ r. ⌜ r ≡ givenBy g owner ⌝ }
 {
-    Given {
+    SlotMarks {
         send: seats::has(g.send | g.dark, owner),
         receive: seats::without(g.receive | g.dark, owner),
     }

@@ -3,18 +3,19 @@ use borrow.Author.Needs.{needs}
 use mathlib.Core.Logic.{inl, inr, ⊎-elim}
 use native.Mathlib.Nat.{mod-lt}
 use lib.ListN.{length}
+use Rattle.turn.specs.Turn.{spokenBy}
 use Rattle.ring.specs.Ring.{seatOf}
-use Rattle.ring.specs.Refusals.{told}
+use Rattle.ring.specs.Refusals.{stepTells}
 use Rattle.ring.specs.Promise.{StepPromise}
 use Rattle.sheet.specs.Good.{slotOf}
 use Rattle.run.specs.Marks.{ownerAt}
-use Rattle.run.specs.Inside.{givenBy, spokenBy}
-use Rattle.run.specs.declared.marks.Given.{Given}
+use Rattle.run.specs.Inside.{givenBy}
+use Rattle.run.specs.declared.marks.SlotMarks.{SlotMarks}
 use Rattle.run.proofs.Gathering.{Whole, all-gathered}
 use Prim.Native.Nat.{_+_, _-_, _%_, _<_}
 use mathlib.Core.Path.{_≡_, refl, sym, ap, _∙_, subst}
 use native.Mathlib.Omega.{arith}
-use Rattle.run.specs.Run.{spokenOn, runSheet}
+use Rattle.run.specs.Run.{heardAs, spokenOn, runSheet}
 use Rattle.run.proofs.Running.{bench, marksOn, Going, fresh-given, going-start, going-mark, going-over, spoken-given, going-differs, going-length, going-stops, going-on, leaves}
 use Rattle.run.proofs.through.Statement.{statement}
 use Rattle.run.proofs.through.Tie as tie
@@ -53,9 +54,9 @@ said c =
     let sheet = start l .args .t1 in
     let r = l .loop .ring in
     let o = ownerAt sheet (l .loop .at) in
-    let of-seat : c .spoken .result ≡ spokenBy (seatOf r o .set) (seatOf r o .ack) o (c .before .before .before .given-by .result .send) = c .spoken .ensures in
+    let of-seat : c .spoken .result ≡ heardAs (spokenBy o (seatOf r o .set) (seatOf r o .ack) (c .before .before .before .given-by .result .send)) = c .spoken .ensures in
     of-seat
-    ∙ ap (λ (x : Given). spokenBy (seatOf r o .set) (seatOf r o .ack) o (x .send)) (c .before .before .before .given-by .ensures)
+    ∙ ap (λ (x : SlotMarks). heardAs (spokenBy o (seatOf r o .set) (seatOf r o .ack) (x .send))) (c .before .before .before .given-by .ensures)
     ∙ spoken-given (l .loop .inv .0) (start l .pre) (c .before .before .before .before .before .loop-test .taken) (whole j)
 
 -- it is what was heard
@@ -69,7 +70,7 @@ promise : (c : tie.After-step Inv-loop μ-loop) → let l = c .before .before .b
     StepPromise (l .loop .ring) (g .send) (g .receive) (l .loop .trail) (c .step .result) (c .step .last .1 .1 .1 .0)
 promise c =
     let l = c .before .before .before .before .before .before .before .before .before .before in
-    subst (λ (x : Given). StepPromise (l .loop .ring) (x .send) (x .receive) (l .loop .trail) (c .step .result) (c .step .last .1 .1 .1 .0))
+    subst (λ (x : SlotMarks). StepPromise (l .loop .ring) (x .send) (x .receive) (l .loop .trail) (c .step .result) (c .step .last .1 .1 .1 .0))
     (c .before .before .before .before .before .before .before .given-by .ensures) (c .step .ensures)
 
 -- and the trail keeps its length
@@ -132,7 +133,7 @@ returns-2 c = let p = c .before .before .before .before .before .before .before 
     let l = j .before .before in
     let a = start l in
     leaves (a .args .t1) (p .step .result .ring) (p .step .last .1 .1 .1 .0) _ _ (c .refused .ensures)
-    (going-stops (l .loop .inv .0) (a .pre) (j .before .loop-test .taken) (whole j) (heard e) (promise p) (ap told (c .before .before .answer .given .1)))
+    (going-stops (l .loop .inv .0) (a .pre) (j .before .loop-test .taken) (whole j) (heard e) (promise p) (ap stepTells (c .before .before .answer .given .1)))
 
 add-at : tie.Need-add-at Inv-loop μ-loop
 add-at c = omega (arith, c .before .before .before .before .before .before .before .before .before .before .before .before .before .before .before .loop-test .taken, start (c .before .before .before .before .before .before .before .before .before .before .before .before .before .before .before .before) .pre .slotted)
@@ -146,7 +147,7 @@ loop-again-2 c = let p = c .before .before .before .before .before .before in
     let j = e .before .before .before .before .before .before in
     let l = j .before .before in
     let a = start l in
-    (rw (c .slot-over .ensures) (going-on (l .loop .inv .0) (a .pre) (j .before .loop-test .taken) (whole j) (heard e) (promise p) (ap told (c .before .enum-told .given .1))), kept p)
+    (rw (c .slot-over .ensures) (going-on (l .loop .inv .0) (a .pre) (j .before .loop-test .taken) (whole j) (heard e) (promise p) (ap stepTells (c .before .enum-told .given .1))), kept p)
 
 same-length-3 : tie.Need-same-length-3 Inv-loop μ-loop
 same-length-3 c = c .before .before .loop .inv .1
