@@ -37,15 +37,15 @@ fn spoken(set: u32, ack: bool, owner: usize, marked: bool) -> u8
     ensures { λ r. ⌜ r ≡ spokenBy set ack owner marked ⌝ }
 {
     if marked {
-        return sheet::HEARD_SILENCE;
+        return sheet_lines::HEARD_SILENCE;
     }
     if seats::has(set, owner) {
         if ack {
-            return sheet::HEARD_ONE;
+            return sheet_lines::HEARD_ONE;
         }
-        return sheet::HEARD_ZERO;
+        return sheet_lines::HEARD_ZERO;
     }
-    sheet::HEARD_SILENCE
+    sheet_lines::HEARD_SILENCE
 }
 
 // A run that ends with this ring: what the bus showed, and the verdict.

@@ -9,19 +9,6 @@ mod modules; // modules.rt: the first section
 mod marks; // marks.rt: the second section
 mod slots; // slots.rt: the third section
 
-// The kinds of marks.
-pub const SEND: u8 = sheet_lines::SEND;
-
-pub const RECEIVE: u8 = sheet_lines::RECEIVE;
-
-pub const DARK: u8 = sheet_lines::DARK;
-// What the bus recorder heard.
-pub const HEARD_ONE: u8 = sheet_lines::HEARD_ONE;
-
-pub const HEARD_ZERO: u8 = sheet_lines::HEARD_ZERO;
-
-pub const HEARD_SILENCE: u8 = sheet_lines::HEARD_SILENCE;
-
 // A mark of a seat at a time, of one of the kinds.
 pub struct Mark {
     pub time: u16,
@@ -36,7 +23,7 @@ pub struct Sheet {
     pub mark_count: usize,
     pub marks: [Mark; limits::MARKS_MOST],
     pub slot_count: usize,
-    pub slots: [u8; limits::SLOTS_MOST as usize],
+    pub slots: [u8; limits::SLOTS_MOST],
 }
 
 pub enum Answer {

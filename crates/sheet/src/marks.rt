@@ -68,10 +68,10 @@ fn is_allowed(n: usize, time: usize, seat: usize, kind: u8) -> bool
     ensures { λ r. ⌜ r ≡ allowed n (mark time seat kind) ⌝ }
 {
     let owner = time % n;
-    if kind == crate::SEND {
+    if kind == sheet_lines::SEND {
         return seat == owner;
     }
-    if kind == crate::RECEIVE {
+    if kind == sheet_lines::RECEIVE {
         return seat != owner;
     }
     true
@@ -82,7 +82,7 @@ fn first_offence(n: usize, k: usize, last: Mark, time: usize, seat: usize, kind:
     requires { ⌜ 0 < n ⌝ }
     ensures { λ r. ⌜ offenceOf r ≡ markOffence n k last (mark time seat kind) ⌝ }
 {
-    if (limits::SLOTS_MOST as usize) <= time {
+    if limits::SLOTS_MOST <= time {
         return Check::Bad(Refusal::OutsideLimits);
     }
     if n <= seat {

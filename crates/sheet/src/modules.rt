@@ -29,7 +29,7 @@ fn module_lines(s: &[u8], start: usize, count: usize) -> Modules
     let mut at = start;
     let mut k: usize = 0;
     'lines: while k < count {
-        let one = sheet_lines::line(s, at, 1, limits::MODULE_MOST as usize);
+        let one = sheet_lines::line(s, at, 1, limits::MODULE_MOST);
         let Piece::Found(value, next) = one else {
             return Modules { list, end: one };
         };

@@ -9,14 +9,14 @@ use sheet_lines::Piece;
 use sheet_lines::Want;
 
 pub struct Slots {
-    pub list: [u8; limits::SLOTS_MOST as usize],
+    pub list: [u8; limits::SLOTS_MOST],
     pub end: Piece,
 }
 
-pub fn no_slots() -> [u8; limits::SLOTS_MOST as usize]
+pub fn no_slots() -> [u8; limits::SLOTS_MOST]
     ensures { λ r. ⌜ r ≡ noSlots ⌝ }
 {
-    [0u8; limits::SLOTS_MOST as usize]
+    [0u8; limits::SLOTS_MOST]
 }
 
 // So many slot lines from `start` on.
@@ -45,7 +45,7 @@ fn slot_lines(s: &[u8], start: usize, count: usize) -> Slots
 pub fn slot_section(s: &[u8], at: usize) -> Slots
     ensures { λ r. ⌜ sectionOf (r .list) (r .end) ≡ sectionAt 0 slotsMost (slotLine (now (s .entry))) noSlots (now (s .entry)) at ⌝ }
 {
-    let count = sheet_lines::line(s, at, 0, limits::SLOTS_MOST as usize);
+    let count = sheet_lines::line(s, at, 0, limits::SLOTS_MOST);
     let Piece::Found(h, next) = count else {
         return Slots {
             list: no_slots(),

@@ -69,7 +69,7 @@ module-lines-spec =
     tie.close
     (tie.spec
     Inv-loop μ-loop Inv-lines μ-lines (λ c κs. search needs) lines-holds
-    (λ c. search needs) (λ c κs. search needs) (λ c. search needs) (λ c. search needs) returns
+    (λ c κs. search needs) (λ c. search needs) (λ c. search needs) returns
     cast-number
     (λ c. search needs) (λ c. search needs) (λ c. search needs) (λ c. search needs) (λ c. search needs) loop-again
     (λ c. search needs) (λ c. search needs) (λ c. search needs) (λ c. search needs) lines-again

@@ -9,7 +9,7 @@ pub slot-section-spec : {M : Type 1} → statement M
 slot-section-spec =
     tie.close
     (tie.spec
-    (λ c. search needs) (λ c κs. search needs) (λ c. search needs) (λ c. search needs) (λ c κs. search needs)
+    (λ c κs. search needs) (λ c. search needs) (λ c. search needs) (λ c κs. search needs)
     (λ c. count-refused _ _ _ _ _ _ (c .before .before .before .line .ensures) _ (c .before .enum-told .given .1))
     (λ c κs. omega (arith, count-within _ _ _ _ (c .before .before .before .line .ensures) (c .before .count .given .1)))
     (λ c. count-lines _ _ _ _ _ _ (c .before .before .before .before .line .ensures) (c .before .before .count .given .1) (c .slot-lines .ensures)))
