@@ -6,7 +6,7 @@ use Rattle.limits.specs.Refusals.{done, refused}
 use Rattle.steps.proofs.Taken.{not-done}
 use Rattle.sheet_lines.specs.Bytes.{byteAt, digitsAt, numberAt}
 use Rattle.sheet_lines.specs.Lines.{endAt, ended, lineAt, spacedAt}
-use Rattle.sheet.specs.Sections.{linesAt, sectionAt, isNew, moduleLine, slotLine}
+use Rattle.sheet.specs.Entries.{linesAt, isNew, moduleLine, slotLine}
 use Rattle.sheet.specs.Marks.{markOffence, fieldsAt, markLine}
 use Rattle.sheet.specs.Sheets.{noModules, noMarks, noSlots, sheetIn, told, toldOf}
 use Rattle.sheet.specs.declared.Reading.{Reading}
@@ -23,11 +23,11 @@ good : List ℕ
 good = 50 ∷ 10 ∷ 55 ∷ 10 ∷ 56 ∷ 10 ∷ 48 ∷ 10 ∷ 48 ∷ 10 ∷ []
 
 good-read : toldOf (sheetIn good) ≡ done
-unfolding good sheetIn sectionAt linesAt moduleLine isNew slotLine markLine fieldsAt spacedAt markOffence lineAt ended endAt numberAt digitsAt byteAt noModules noMarks noSlots
+unfolding good sheetIn linesAt moduleLine isNew slotLine markLine fieldsAt spacedAt markOffence lineAt ended endAt numberAt digitsAt byteAt noModules noMarks noSlots
 good-read = refl
 
 empty-refused : toldOf (sheetIn []) ≡ refused 1 0
-unfolding sheetIn sectionAt lineAt ended endAt numberAt digitsAt byteAt noModules
+unfolding sheetIn lineAt ended endAt numberAt digitsAt byteAt noModules
 empty-refused = refl
 
 -- ---- the theorems

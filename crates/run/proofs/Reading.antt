@@ -14,7 +14,7 @@ use Rattle.sheet.specs.Sheets.{noSheet, sheetIn, told, toldOf, sheetOf, ReadPro
 use Rattle.sheet.specs.declared.Sheet.{Sheet}
 use Rattle.sheet.specs.declared.Reading.{Reading}
 use Rattle.sheet.specs.declared.Answer.the-variants.{Read, Refused}
-use Rattle.sheet_laws.proofs.Good.{read-good}
+use Rattle.sheet.proofs.Good.{read-good}
 use Rattle.run.specs.Outcome.{refused, Result}
 use Rattle.run.specs.Run.{ends, runSheet, runOf, RunPromise}
 use Rattle.run.specs.Inside.{Ended, Leaves}
