@@ -117,8 +117,8 @@ pub fn run(bytes: &[u8], trail: &mut [u8]) -> Ran
     let answer = reading.answer;
     let sheet = reading.sheet;
     match answer {
-        sheet::Answer::Read => through(sheet, trail),
-        sheet::Answer::Refused(why, place) => {
+        sheet::ReadAnswer::Read => through(sheet, trail),
+        sheet::ReadAnswer::Refused(why, place) => {
             let modules = sheet.modules;
             refused(why, place, Ring::zero(), modules)
         }

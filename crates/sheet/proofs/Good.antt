@@ -17,14 +17,15 @@ use Rattle.sheet_lines.specs.Found.{Found, found, offence}
 use Rattle.sheet_lines.specs.Bytes.{isKind, isHeard}
 use Rattle.sheet.specs.Entries.{linesAt, isNew, moduleLine, slotLine}
 use Rattle.sheet.specs.Marks.{noMark, above, ascends, markLine}
-use Rattle.sheet.specs.Sheets.{noModules, noMarks, noSlots, sheetIn, told, toldOf, sheetOf, ReadPromise}
+use Rattle.sheet.specs.Sheets.{noModules, noMarks, noSlots, sheetIn, readTells, readTold, sheetOf, ReadPromise}
 use Rattle.sheet.specs.Good.{GoodSheet}
 use Rattle.sheet.specs.declared.Mark.{Mark}
 use Rattle.sheet.specs.declared.Sheet.{Sheet}
-use Rattle.sheet.specs.declared.Answer.the-variants.{Read}
+use Rattle.sheet.specs.declared.ReadAnswer.the-variants.{Read}
 use Rattle.sheet.specs.declared.Reading.{Reading}
 use Rattle.sheet_lines.proofs.LineLaws.{then-found, line-within, lone-found}
 use Rattle.sheet.proofs.MarkLaws.{Kept, good-mark}
+use Rattle.sheet.proofs.SheetLaws.{not-done}
 use Rattle.sheet.proofs.Parts.{lines-others, module-found, slot-found, mark-line-found, fields-found, sheet-found}
 
 -- ---- what holds of each entry, where it holds of the line that made it
@@ -147,8 +148,8 @@ read-good s sheet end e =
 
 -- for callers: a reading that answers `Read` has a good sheet beside the answer
 pub reading-good : (bytes : List ℕ) (r : Reading) → ReadPromise bytes r → r .answer ≡ Read → GoodSheet (r .sheet)
-reading-good bytes r p a = go (sheetIn bytes) refl (ap told (sym a) ∙ p .answer) (p .sheet)
+reading-good bytes r p a = go (sheetIn bytes) refl (ap readTells (sym a) ∙ p .answer) (p .sheet)
   where
-    go : (x : Found Sheet) → sheetIn bytes ≡ x → done ≡ toldOf x → r .sheet ≡ sheetOf x → GoodSheet (r .sheet)
+    go : (x : Found Sheet) → sheetIn bytes ≡ x → done ≡ readTold x → r .sheet ≡ sheetOf x → GoodSheet (r .sheet)
     go (found sheet end) q t s = rw s (read-good bytes sheet end q)
-    go (offence why place) q t s = let z : _≡_ {A = ℕ} 0 1 = cc in absurd (omega arith)
+    go (offence why place) q t s = not-done (sym t)

@@ -3,6 +3,7 @@ use mathlib.Core.Path.{_≡_, refl, sym, ap, _∙_}
 use mathlib.Core.List.{List}
 use Prim.Native.Nat.{ℕ}
 use native.Mathlib.Omega.{arith}
+use Rattle.limits.specs.Refusals.{done, refused}
 use Rattle.limits.specs.declared.Refusal.{Refusal}
 use Rattle.sheet_lines.specs.Found.{Found, found, offence}
 use Rattle.sheet_lines.specs.Pieces.{foundOf}
@@ -11,7 +12,7 @@ use Rattle.sheet_lines.specs.declared.Piece.the-variants as piece
 use Rattle.sheet.specs.Sheets.{sheetIn, ReadPromise}
 use Rattle.sheet.specs.Inside.{beside, wholeOf}
 use Rattle.sheet.specs.declared.Sheet.{Sheet}
-use Rattle.sheet.specs.declared.Answer.the-variants.{Read, Refused}
+use Rattle.sheet.specs.declared.ReadAnswer.the-variants.{Read, Refused}
 use Rattle.sheet.specs.declared.Whole.{Whole}
 
 pub found-by : {p : Piece} {x : Found ℕ} {v n : ℕ} → foundOf p ≡ x → p ≡ piece.Found v n → x ≡ found v n
@@ -19,6 +20,11 @@ found-by e f = sym e ∙ ap foundOf f
 
 pub beside-by : {A : Type 0} {a : A} {p : Piece} {x : Found A} {v n : ℕ} → beside a p ≡ x → p ≡ piece.Found v n → x ≡ found a n
 beside-by {a} e f = sym e ∙ ap (beside a) f
+
+-- ---- an answer
+
+pub not-done : {X : Type 0} {number place : ℕ} → refused number place ≡ done → X
+not-done e = let z : _≡_ {A = ℕ} 0 1 = cc in absurd (omega arith)
 
 -- ---- a reading from the whole
 

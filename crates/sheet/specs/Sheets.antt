@@ -13,8 +13,8 @@ use Rattle.sheet.specs.Entries.{countAt, entriesAt, moduleLine, slotLine
 use Rattle.sheet.specs.Marks.{noMark, markLine}
 use Rattle.sheet.specs.declared.Mark.{Mark}
 use Rattle.sheet.specs.declared.Sheet.{Sheet}
-use Rattle.sheet.specs.declared.Answer.{Answer}
-use Rattle.sheet.specs.declared.Answer.the-variants.{Read, Refused}
+use Rattle.sheet.specs.declared.ReadAnswer.{ReadAnswer}
+use Rattle.sheet.specs.declared.ReadAnswer.the-variants.{Read, Refused}
 use Rattle.sheet.specs.declared.Reading.{Reading}
 
 unfoldable pub noModules : List ℕ
@@ -50,14 +50,14 @@ sheetIn bytes =
 -- ---- what is promised of a reading
 
 -- what an answer says
-abbrev pub told : Answer → Told
-told Read = done
-told (Refused why place) = refused (numberOf why) place
+abbrev pub readTells : ReadAnswer → Told
+readTells Read = done
+readTells (Refused why place) = refused (numberOf why) place
 
 -- what the answer is to say
-abbrev pub toldOf : Found Sheet → Told
-toldOf (found sheet end) = done
-toldOf (offence why place) = refused (numberOf why) place
+abbrev pub readTold : Found Sheet → Told
+readTold (found sheet end) = done
+readTold (offence why place) = refused (numberOf why) place
 
 -- and which sheet is to stand beside it
 abbrev pub sheetOf : Found Sheet → Sheet
@@ -65,5 +65,5 @@ sheetOf (found sheet end) = sheet
 sheetOf (offence why place) = noSheet
 
 pub record ReadPromise (bytes : List ℕ) (r : Reading) : Type 0 where
-  pub answer : told (r .answer) ≡ toldOf (sheetIn bytes)
+  pub answer : readTells (r .answer) ≡ readTold (sheetIn bytes)
   pub sheet : r .sheet ≡ sheetOf (sheetIn bytes)

@@ -26,14 +26,14 @@ pub struct Sheet {
     pub slots: [u8; limits::SLOTS_MOST],
 }
 
-pub enum Answer {
+pub enum ReadAnswer {
     Read,
     // Why, and at which place.
     Refused(Refusal, usize),
 }
 
 pub struct Reading {
-    pub answer: Answer,
+    pub answer: ReadAnswer,
     pub sheet: Sheet,
 }
 
@@ -125,12 +125,12 @@ pub fn read(bytes: &[u8]) -> Reading
     let sheet = whole.sheet;
     let Piece::Offence(why, place) = end else {
         return Reading {
-            answer: Answer::Read,
+            answer: ReadAnswer::Read,
             sheet,
         };
     };
     Reading {
-        answer: Answer::Refused(why, place),
+        answer: ReadAnswer::Refused(why, place),
         sheet,
     }
 }

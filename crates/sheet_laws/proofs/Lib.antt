@@ -4,3 +4,4 @@ pub mod Length
 pub mod Readers
 pub mod Sight
 pub mod Refusals
+pub mod EmptyReader
