@@ -10,4 +10,3 @@ pub mod Paper
 pub mod Marks
 pub mod Empty
 pub mod Whole
-pub mod EmptyReader

@@ -5,4 +5,3 @@ pub mod Story
 pub mod Paper
 pub mod Marks
 pub mod Empty
-pub mod EmptyReader

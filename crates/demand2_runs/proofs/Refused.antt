@@ -20,7 +20,7 @@ use Rattle.ring.proofs.Checked.{owner-below}
 use Rattle.steps.proofs.Reached.{Stands, reached-stands, run-reached}
 use Rattle.sheet.specs.Good.{GoodSheet}
 use Rattle.sheet.specs.declared.Sheet.{Sheet}
-use Rattle.sheet_laws.proofs.Numbers.{reader-numbers}
+use Rattle.sheet_laws.proofs.Refusals.{reader-refusals}
 use Rattle.demand2.specs.Refused.{WrongMark, Answered, not-a-ring, wrong-mark, at-the-end, no-room, taken}
 use Rattle.demand2.proofs.Refused.{answers}
 use Rattle.demand2.proofs.Sum as sum
@@ -87,7 +87,7 @@ only-the-reader bytes t long number place e =
     (read-is bytes)
 
 pub one-to-seven : OneToSeven
-one-to-seven bytes t long number place e = let r = only-the-reader bytes t long number place e in omega (arith, r .1, reader-numbers bytes (r .0) place (r .2))
+one-to-seven bytes t long number place e = let r = only-the-reader bytes t long number place e in omega (arith, r .1, reader-refusals bytes (r .0) place (r .2))
 
 pub never-eight : NeverEight
 never-eight bytes t long place e = let l = one-to-seven bytes t long 8 place e in omega arith

@@ -11,7 +11,7 @@ use Rattle.sheet_lines.specs.Found.{Found, found, offence}
 use Rattle.sheet.specs.Good.{GoodSheet}
 use Rattle.sheet.specs.Sheets.{sheetIn}
 use Rattle.sheet.specs.declared.Sheet.{Sheet}
-use Rattle.sheet_laws.proofs.Good.{read-good}
+use Rattle.sheet.proofs.Good.{read-good}
 use Rattle.run.specs.Marks.{marksAt}
 use Rattle.run.specs.Along.{benchAt}
 use Rattle.run.specs.Outcome.{Heard, Outcome, ran, Result}

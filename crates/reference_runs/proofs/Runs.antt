@@ -8,7 +8,7 @@ use Rattle.ring.specs.Refusals.{stepTold, verdictFound}
 use Rattle.ring.specs.Promise.{ringOf, trailOf}
 use Rattle.sheet_lines.specs.Bytes.{byteAt, digitsAt, numberAt}
 use Rattle.sheet_lines.specs.Lines.{endAt, ended, lineAt, spacedAt}
-use Rattle.sheet.specs.Sections.{linesAt, sectionAt, isNew, moduleLine, slotLine}
+use Rattle.sheet.specs.Entries.{linesAt, isNew, moduleLine, slotLine}
 use Rattle.sheet.specs.Marks.{markOffence, fieldsAt, markLine}
 use Rattle.sheet.specs.Sheets.{noModules, noMarks, noSlots, sheetIn}
 use Rattle.steps.specs.Run.{runOn}
@@ -16,5 +16,5 @@ use Rattle.reference_runs.specs.Outcome.{heldBy, outcomeOn, outcome}
 use Rattle.reference_runs.specs.Runs.{Run, runs}
 
 pub as-stated : map (λ (r : Run). outcome (r .given)) runs ≡ map (λ (r : Run). r .stated) runs
-unfolding runs outcome outcomeOn heldBy runOn ringOf trailOf stepTold verdictFound firstFailing termsHold turnOf isRing everySeatStands freshRing zeroRing sheetIn sectionAt linesAt lineAt ended endAt moduleLine isNew slotLine markLine fieldsAt spacedAt markOffence numberAt digitsAt byteAt noModules noMarks noSlots
+unfolding runs outcome outcomeOn heldBy runOn ringOf trailOf stepTold verdictFound firstFailing termsHold turnOf isRing everySeatStands freshRing zeroRing sheetIn linesAt lineAt ended endAt moduleLine isNew slotLine markLine fieldsAt spacedAt markOffence numberAt digitsAt byteAt noModules noMarks noSlots
 as-stated = refl

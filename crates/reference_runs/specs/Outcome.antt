@@ -11,7 +11,7 @@ use Rattle.ring.specs.Ring.{seatOf}
 use Rattle.trail.specs.Trail.{width}
 use Rattle.ring.specs.Refusals.{Finding, verdictFound}
 use Rattle.ring.specs.declared.Ring.{Ring}
-use Rattle.sheet.specs.Sheets.{sheetIn, toldOf}
+use Rattle.sheet.specs.Sheets.{sheetIn, readTold}
 use Rattle.steps.specs.Run.{Marks, Bench, freshBench, runOn}
 
 -- a ring of n seats with the marks of its steps, or a sheet's bytes
@@ -42,4 +42,4 @@ outcomeOn b = came (tab (b .ring .n) (heldBy (b .ring))) (take (width * b .ring 
 -- the trail has room for 20 records, which is more than any of these runs writes
 unfoldable pub outcome : Given → Outcome
 outcome (stepped n marks) = outcomeOn (runOn marks (freshBench n (replicate (width * 20) 0)))
-outcome (read bytes) = told (toldOf (sheetIn bytes))
+outcome (read bytes) = told (readTold (sheetIn bytes))

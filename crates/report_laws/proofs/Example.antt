@@ -9,7 +9,7 @@ use Rattle.ring.specs.Refusals.{stepTold, verdictFound}
 use Rattle.ring.specs.Promise.{ringOf, trailOf}
 use Rattle.sheet_lines.specs.Bytes.{byteAt, digitsAt, numberAt}
 use Rattle.sheet_lines.specs.Lines.{endAt, ended, lineAt, spacedAt}
-use Rattle.sheet.specs.Sections.{linesAt, sectionAt, isNew, moduleLine, slotLine}
+use Rattle.sheet.specs.Entries.{linesAt, isNew, moduleLine, slotLine}
 use Rattle.sheet.specs.Marks.{markOffence, fieldsAt, markLine}
 use Rattle.sheet.specs.Sheets.{noModules, noMarks, noSlots, sheetIn}
 use Rattle.run.specs.Marks.{marksAt}
@@ -21,7 +21,7 @@ use Rattle.report.specs.Promise.{noTrail, textOf}
 use Rattle.report_laws.specs.Example.{exampleSheet, examplePage}
 
 pub example-printed : textOf exampleSheet ≡ examplePage
-unfolding textOf noTrail pageOf exampleSheet examplePage recordLine seatLine decimal digitsIn onesIn runOf runFrom marksAt sheetIn noModules noMarks noSlots sectionAt linesAt moduleLine markLine slotLine isNew lineAt ended endAt numberAt digitsAt byteAt fieldsAt spacedAt markOffence stepTold ringOf trailOf verdictFound isRing everySeatStands freshRing zeroRing turnOf termsHold firstFailing
+unfolding textOf noTrail pageOf exampleSheet examplePage recordLine seatLine decimal digitsIn onesIn runOf runFrom marksAt sheetIn noModules noMarks noSlots linesAt moduleLine markLine slotLine isNew lineAt ended endAt numberAt digitsAt byteAt fieldsAt spacedAt markOffence stepTold ringOf trailOf verdictFound isRing everySeatStands freshRing zeroRing turnOf termsHold firstFailing
 example-printed = refl
 
 -- 2, `bus differs 307`, `faults outside 4`

@@ -10,11 +10,11 @@ use Rattle.ring.specs.declared.Ring.{Ring}
 use Rattle.steps.proofs.Taken.{not-done}
 use Rattle.sheet_lines.specs.Found.{Found, found, offence}
 use Rattle.sheet.specs.Good.{GoodSheet}
-use Rattle.sheet.specs.Sheets.{noSheet, sheetIn, told, toldOf, sheetOf, ReadPromise}
+use Rattle.sheet.specs.Sheets.{noSheet, sheetIn, readTells, readTold, sheetOf, ReadPromise}
 use Rattle.sheet.specs.declared.Sheet.{Sheet}
 use Rattle.sheet.specs.declared.Reading.{Reading}
-use Rattle.sheet.specs.declared.Answer.the-variants.{Read, Refused}
-use Rattle.sheet_laws.proofs.Good.{read-good}
+use Rattle.sheet.specs.declared.ReadAnswer.the-variants.{Read, Refused}
+use Rattle.sheet.proofs.Good.{read-good}
 use Rattle.run.specs.Outcome.{refused, Result}
 use Rattle.run.specs.Run.{ends, runSheet, runOf, RunPromise}
 use Rattle.run.specs.Inside.{Ended, Leaves}
@@ -51,9 +51,9 @@ module _ (bytes : List ℕ) (r : Reading) (p : ReadPromise bytes r) where
   read-found : r .answer ≡ Read → (end : ℕ) × (sheetIn bytes ≡ found (r .sheet) end)
   read-found e = go (sheetIn bytes) refl (p .answer) (p .sheet)
     where
-      go : (f : Found Sheet) → sheetIn bytes ≡ f → told (r .answer) ≡ toldOf f → r .sheet ≡ sheetOf f → (end : ℕ) × (sheetIn bytes ≡ found (r .sheet) end)
+      go : (f : Found Sheet) → sheetIn bytes ≡ f → readTells (r .answer) ≡ readTold f → r .sheet ≡ sheetOf f → (end : ℕ) × (sheetIn bytes ≡ found (r .sheet) end)
       go (found sheet end) q a s = (end, q ∙ ap (λ (x : Sheet). found x end) (sym s))
-      go (offence why place) q a s = absurd (not-done (sym a ∙ ap told e))
+      go (offence why place) q a s = absurd (not-done (sym a ∙ ap readTells e))
 
   -- a sheet that is read is run
   pub keeps-read : (t : List ℕ) (x : Ran) (t′ : List ℕ) → r .answer ≡ Read → Leaves (runSheet (r .sheet) t) x t′ → RunPromise bytes t x t′
@@ -62,9 +62,9 @@ module _ (bytes : List ℕ) (r : Reading) (p : ReadPromise bytes r) where
   -- a refused one is not
   pub keeps-refused : (t : List ℕ) (why : Refusal) (place : ℕ) (ring : Ring) (x : Ran) → r .answer ≡ Refused why place → ring ≡ zeroRing
       → Ended (refused (numberOf why) place) ring (r .sheet .modules) x → RunPromise bytes t x t
-  keeps-refused t why place ring x e z l = go (sheetIn bytes) refl (sym (ap told e) ∙ p .answer) (p .sheet)
+  keeps-refused t why place ring x e z l = go (sheetIn bytes) refl (sym (ap readTells e) ∙ p .answer) (p .sheet)
     where
-      go : (f : Found Sheet) → sheetIn bytes ≡ f → told (Refused why place) ≡ toldOf f → r .sheet ≡ sheetOf f → RunPromise bytes t x t
+      go : (f : Found Sheet) → sheetIn bytes ≡ f → readTells (Refused why place) ≡ readTold f → r .sheet ≡ sheetOf f → RunPromise bytes t x t
       go (found sheet end) q a s = absurd (not-done a)
       go (offence why′ place′) q a s =
           let n : numberOf why ≡ numberOf why′ = cc in

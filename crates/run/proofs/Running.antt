@@ -16,8 +16,7 @@ use Rattle.ring.specs.declared.Ring.{Ring}
 use Rattle.ring.specs.declared.Stepped.{Stepped}
 use Rattle.steps.specs.Run.{Marks, Bench, toldOn, stepOn, freshBench}
 use Rattle.steps.proofs.Reached.{fresh-n, fresh-time, step-after, step-refused, step-length}
-use Rattle.sheet.specs.Good as sheets
-use Rattle.sheet.specs.Good.{GoodSheet}
+use Rattle.sheet.specs.Good.{markOf, heardIn, GoodSheet}
 use Rattle.sheet.specs.declared.Sheet.{Sheet}
 use Rattle.run.specs.Marks.{ownerAt, marksAt}
 use Rattle.run.specs.Outcome.{agrees, differs, Outcome, refused, Result}
@@ -36,7 +35,7 @@ abbrev pub marksOn : Sheet → Bench → Marks
 marksOn sheet b = marksAt sheet (b .ring .time)
 
 abbrev pub heardOn : Sheet → Bench → ℕ
-heardOn sheet b = sheets.slotOf sheet (b .ring .time)
+heardOn sheet b = heardIn sheet (b .ring .time)
 
 -- ---- one slot of the run
 
@@ -83,8 +82,8 @@ going-start sheet t = record {
 
 module _ {sheet : Sheet} {all : Result} {trail : List ℕ} {r : Ring} {g : Gathered} {at : ℕ} (go : Going sheet all trail r g at) where
   -- one mark more of this slot
-  pub going-mark : GoodSheet sheet → g .next < sheet .«mark_count» → sheets.markOf sheet (g .next) .time ≡ at
-      → Going sheet all trail r (withMark g (sheets.markOf sheet (g .next))) at
+  pub going-mark : GoodSheet sheet → g .next < sheet .«mark_count» → markOf sheet (g .next) .time ≡ at
+      → Going sheet all trail r (withMark g (markOf sheet (g .next))) at
   going-mark good l e = record {
     seats = go .seats;
     time = go .time;
@@ -125,15 +124,15 @@ module _ {sheet : Sheet} {all : Result} {trail : List ℕ} {r : Ring} {g : Gathe
     from = go .same (suc (sheet .«slot_count» - (at + 1))) (omega arith)
 
     -- what was heard
-    line : sheets.slotOf sheet at ≡ heardOn sheet b
-    line = ap (sheets.slotOf sheet) (sym (go .time))
+    line : heardIn sheet at ≡ heardOn sheet b
+    line = ap (heardIn sheet) (sym (go .time))
 
-    pub going-differs : (spokenOn (marksOn sheet b) b ≡ sheets.slotOf sheet at → ⊥) → all ≡ judged sheet b (differs at)
+    pub going-differs : (spokenOn (marksOn sheet b) b ≡ heardIn sheet at → ⊥) → all ≡ judged sheet b (differs at)
     going-differs n =
         sym from ∙ run-differs sheet b left (ne-eqb (spokenOn (marksOn sheet b) b) (heardOn sheet b) (λ e. n (e ∙ sym line)))
         ∙ ap (λ (t : ℕ). judged sheet b (differs t)) (go .time)
 
-    module _ (heard : spokenOn (marksOn sheet b) b ≡ sheets.slotOf sheet at) {s : Stepped} {t′ : List ℕ}
+    module _ (heard : spokenOn (marksOn sheet b) b ≡ heardIn sheet at) {s : Stepped} {t′ : List ℕ}
         (p : StepPromise r (given .send) (given .receive) trail s t′) where
       alike : eqb (spokenOn (marksOn sheet b) b) (heardOn sheet b) ≡ true
       alike = eq-eqb (spokenOn (marksOn sheet b) b) (heardOn sheet b) (heard ∙ line)

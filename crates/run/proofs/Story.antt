@@ -14,7 +14,7 @@ use Rattle.ring.specs.Refusals.{verdictFound}
 use Rattle.steps.specs.Run.{Bench, toldOn, stepOn, freshBench, taken, runOn}
 use Rattle.steps.proofs.Taken.{told-is}
 use Rattle.steps.proofs.Reached.{fresh-time, step-after, run-append}
-use Rattle.sheet.specs.Good.{slotOf}
+use Rattle.sheet.specs.Good.{heardIn}
 use Rattle.sheet.specs.declared.Sheet.{Sheet}
 use Rattle.run.specs.Marks.{marksAt}
 pub use Rattle.run.specs.Along.{benchAt}
@@ -26,7 +26,7 @@ use Rattle.run.proofs.Running.{marksOn, heardOn, run-ends, run-differs,
 
 -- the bus agrees in slot k, or does not
 abbrev pub Agrees : Sheet → List ℕ → ℕ → Type 0
-Agrees sheet trail k = spokenOn (marksAt sheet k) (benchAt sheet trail k) ≡ slotOf sheet k
+Agrees sheet trail k = spokenOn (marksAt sheet k) (benchAt sheet trail k) ≡ heardIn sheet k
 
 -- a run ends after k steps with this outcome: at the last slot, at the first difference, or with a step that is refused
 pub data Ending (sheet : Sheet) (trail : List ℕ) (k : ℕ) : Outcome → Type 0 where
@@ -78,7 +78,7 @@ module _ (sheet : Sheet) (trail : List ℕ) where
   tells (suc left) k e u =
       let b = benchAt sheet trail k in
       let same : spokenOn (marksOn sheet b) b ≡ spokenOn (marksAt sheet k) b = ap (λ (t : ℕ). spokenOn (marksAt sheet t) b) (u .time) in
-      let line : heardOn sheet b ≡ slotOf sheet k = ap (slotOf sheet) (u .time) in
+      let line : heardOn sheet b ≡ heardIn sheet k = ap (heardIn sheet) (u .time) in
       let answer : toldOn (marksOn sheet b) b ≡ toldOn (marksAt sheet k) b = ap (λ (t : ℕ). toldOn (marksAt sheet t) b) (u .time) in
       ⊎-elim
       (λ p.

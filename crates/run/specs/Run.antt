@@ -14,7 +14,7 @@ use Rattle.turn.specs.declared.Spoken.the-variants.{Nothing, Bit}
 use Rattle.steps.specs.Run.{Marks, Bench, toldOn, stepOn, freshBench}
 use Rattle.sheet_lines.specs.Found.{onFound}
 use Rattle.sheet_lines.specs.Bytes.{heardOne, heardZero, heardSilence}
-use Rattle.sheet.specs.Good as sheets
+use Rattle.sheet.specs.Good.{heardIn}
 use Rattle.sheet.specs.Sheets.{noSheet, sheetIn}
 use Rattle.sheet.specs.declared.Sheet.{Sheet}
 use Rattle.run.specs.Marks.{marksAt}
@@ -52,7 +52,7 @@ runFrom (suc left) sheet b =
     let t = b .ring .time in
     let m = marksAt sheet t in
     let more = runFrom left sheet (stepOn m b) in
-    cond (eqb (spokenOn m b) (sheets.slotOf sheet t))
+    cond (eqb (spokenOn m b) (heardIn sheet t))
     (onTold (toldOn m b) more (λ number place. ends sheet b (refused number place)))
     (judged sheet b (differs t))
 

@@ -40,12 +40,12 @@ fn spoken(owner: usize, set: u32, ack: bool, send: bool) -> u8
 {
     let spoken = turn::speak(owner, set, ack, send);
     let Spoken::Bit(bit) = spoken else {
-        return sheet::HEARD_SILENCE;
+        return sheet_lines::HEARD_SILENCE;
     };
     if bit {
-        return sheet::HEARD_ONE;
+        return sheet_lines::HEARD_ONE;
     }
-    sheet::HEARD_ZERO
+    sheet_lines::HEARD_ZERO
 }
 
 // A run that ends with this ring: what the bus showed, and the verdict.
@@ -117,8 +117,8 @@ pub fn run(bytes: &[u8], trail: &mut [u8]) -> Ran
     let answer = reading.answer;
     let sheet = reading.sheet;
     match answer {
-        sheet::Answer::Read => through(sheet, trail),
-        sheet::Answer::Refused(why, place) => {
+        sheet::ReadAnswer::Read => through(sheet, trail),
+        sheet::ReadAnswer::Refused(why, place) => {
             let modules = sheet.modules;
             refused(why, place, Ring::zero(), modules)
         }

@@ -47,9 +47,9 @@ pub fn with_mark(g: Gathered, mark: Mark) -> Gathered
     let kind = mark.kind;
     Gathered {
         next: g.next + 1,
-        send: with_seat(g.send, seat, kind == sheet::SEND),
-        receive: with_seat(g.receive, seat, kind == sheet::RECEIVE),
-        dark: with_seat(g.dark, seat, kind == sheet::DARK),
+        send: with_seat(g.send, seat, kind == sheet_lines::SEND),
+        receive: with_seat(g.receive, seat, kind == sheet_lines::RECEIVE),
+        dark: with_seat(g.dark, seat, kind == sheet_lines::DARK),
     }
 }
 

@@ -11,7 +11,7 @@ use Rattle.ring.specs.Refusals.{within, stepTold, verdictFound}
 use Rattle.ring.specs.Promise.{ringOf, trailOf}
 use Rattle.sheet_lines.specs.Bytes.{byteAt, digitsAt, numberAt}
 use Rattle.sheet_lines.specs.Lines.{endAt, ended, lineAt, spacedAt}
-use Rattle.sheet.specs.Sections.{linesAt, sectionAt, isNew, moduleLine, slotLine}
+use Rattle.sheet.specs.Entries.{linesAt, isNew, moduleLine, slotLine}
 use Rattle.sheet.specs.Marks.{markOffence, fieldsAt, markLine}
 use Rattle.sheet.specs.Sheets.{noModules, noMarks, noSlots, sheetIn}
 use Rattle.run.specs.Marks.{marksAt}
@@ -77,5 +77,5 @@ RefusedRun = let x = runOf ring (7 ∷ []) in (x .outcome ≡ refused 1 14) × (
 -- ---- all computed
 
 small-runs : PrintedRun × StoppedRun × FullRun × DarkRun × SteadyRun × RefusedRun
-unfolding ring missed darkened unmarked printed steady third runOf runFrom marksAt sheetIn noModules noMarks noSlots sectionAt linesAt moduleLine markLine slotLine isNew lineAt ended endAt numberAt digitsAt byteAt fieldsAt spacedAt markOffence stepTold ringOf trailOf verdictFound isRing everySeatStands freshRing zeroRing turnOf termsHold firstFailing
+unfolding ring missed darkened unmarked printed steady third runOf runFrom marksAt sheetIn noModules noMarks noSlots linesAt moduleLine markLine slotLine isNew lineAt ended endAt numberAt digitsAt byteAt fieldsAt spacedAt markOffence stepTold ringOf trailOf verdictFound isRing everySeatStands freshRing zeroRing turnOf termsHold firstFailing
 small-runs = ((refl, refl, refl, refl, refl), (refl, refl, refl), (refl, refl, refl), (refl, refl, refl), (refl, refl, refl, refl), (refl, refl, refl, refl))

@@ -1,4 +1,6 @@
--- The files of laws that the reader's own proofs cite.
-pub mod SectionLaws
+-- The files of laws on run sheets: those that the reader's own proofs cite, and that every sheet read is good.
+pub mod EntryLaws
 pub mod MarkLaws
 pub mod SheetLaws
+pub mod Parts
+pub mod Good

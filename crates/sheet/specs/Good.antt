@@ -15,8 +15,8 @@ moduleOf sheet i = getD (sheet .modules) i 0
 abbrev pub markOf : Sheet → ℕ → Mark
 markOf sheet i = getD (sheet .marks) i noMark
 
-abbrev pub slotOf : Sheet → ℕ → ℕ
-slotOf sheet i = getD (sheet .slots) i 0
+abbrev pub heardIn : Sheet → ℕ → ℕ
+heardIn sheet i = getD (sheet .slots) i 0
 
 pub record GoodSheet (sheet : Sheet) : Type 0 where
   -- 2 to 32 seats, with module numbers 1 to 65,535, all different
@@ -32,8 +32,8 @@ pub record GoodSheet (sheet : Sheet) : Type 0 where
   pub ascending : (i : ℕ) → suc i < sheet .«mark_count» → above (markOf sheet i) (markOf sheet (suc i)) ≡ true
   -- 0 to 4,096 slots, each `1`, `0` or `-`
   pub slotted : sheet .«slot_count» ≤ slotsMost
-  pub heard : (i : ℕ) → i < sheet .«slot_count» → isHeard (slotOf sheet i) ≡ true
+  pub heard : (i : ℕ) → i < sheet .«slot_count» → isHeard (heardIn sheet i) ≡ true
   -- the entries past each count are zero
   pub no-modules : (i : ℕ) → sheet .n ≤ i → i < seatsMost → moduleOf sheet i ≡ 0
   pub no-marks : (i : ℕ) → sheet .«mark_count» ≤ i → i < marksMost → markOf sheet i ≡ noMark
-  pub no-slots : (i : ℕ) → sheet .«slot_count» ≤ i → i < slotsMost → slotOf sheet i ≡ 0
+  pub no-slots : (i : ℕ) → sheet .«slot_count» ≤ i → i < slotsMost → heardIn sheet i ≡ 0

@@ -1,26 +1,13 @@
 // Run sheets: from any bytes whatever to a sheet value and an answer, as document 01 says under 'Run sheets' and 'Refusal numbers'.
 ghost use mathlib.Core.Path.{_≡_};
-ghost use Rattle.sheet.specs.Sheets.{noSheet, ReadPromise};
-ghost use Rattle.sheet.specs.Inside.{refusedWith, wholeOf};
+ghost use Rattle.sheet.specs.Sheets.{noSheet, sheetIn, ReadPromise};
+ghost use Rattle.sheet.specs.Inside.{stoppedAt, wholeOf};
 use limits::Refusal;
 use sheet_lines::Piece;
 
-mod modules; // modules.rt: the first section
-mod marks; // marks.rt: the second section
-mod slots; // slots.rt: the third section
-
-// The kinds of marks.
-pub const SEND: u8 = sheet_lines::SEND;
-
-pub const RECEIVE: u8 = sheet_lines::RECEIVE;
-
-pub const DARK: u8 = sheet_lines::DARK;
-// What the bus recorder heard.
-pub const HEARD_ONE: u8 = sheet_lines::HEARD_ONE;
-
-pub const HEARD_ZERO: u8 = sheet_lines::HEARD_ZERO;
-
-pub const HEARD_SILENCE: u8 = sheet_lines::HEARD_SILENCE;
+mod modules; // modules.rt: the lines of the first section
+mod marks; // marks.rt: those of the second
+mod slots; // slots.rt: those of the third
 
 // A mark of a seat at a time, of one of the kinds.
 pub struct Mark {
@@ -36,17 +23,17 @@ pub struct Sheet {
     pub mark_count: usize,
     pub marks: [Mark; limits::MARKS_MOST],
     pub slot_count: usize,
-    pub slots: [u8; limits::SLOTS_MOST as usize],
+    pub slots: [u8; limits::SLOTS_MOST],
 }
 
-pub enum Answer {
+pub enum ReadAnswer {
     Read,
     // Why, and at which place.
     Refused(Refusal, usize),
 }
 
 pub struct Reading {
-    pub answer: Answer,
+    pub answer: ReadAnswer,
     pub sheet: Sheet,
 }
 
@@ -63,25 +50,69 @@ fn no_sheet() -> Sheet
     }
 }
 
-fn refused(why: Refusal, place: usize) -> Reading
-    ensures { λ r. ⌜ r ≡ refusedWith why place ⌝ }
+// What bytes are read as: a sheet and the place after it, or an offence and no sheet.
+struct Whole {
+    sheet: Sheet,
+    end: Piece,
+}
+
+fn stopped(end: Piece) -> Whole
+    ensures { λ r. ⌜ r ≡ stoppedAt end ⌝ }
 {
-    Reading {
-        answer: Answer::Refused(why, place),
+    Whole {
         sheet: no_sheet(),
+        end,
     }
 }
 
-// The sheet, if it ends where its last section does.
-fn whole(bytes: &[u8], end: usize, sheet: Sheet) -> Reading
-    ensures { λ r. ⌜ r ≡ wholeOf (now (bytes .entry)) end sheet ⌝ }
+// Ring, marks and slots, each a count and as many lines, and no bytes after them.
+fn sheet_in(bytes: &[u8]) -> Whole
+    ensures { λ r. ⌜ r ≡ wholeOf (sheetIn (now (bytes .entry))) ⌝ }
 {
+    let count = sheet_lines::line(bytes, 0, limits::SEATS_LEAST, limits::SEATS_MOST);
+    let Piece::Found(n, a) = count else {
+        return stopped(count);
+    };
+    let ring = modules::module_lines(bytes, a, n);
+    let ring_end = ring.end;
+    let Piece::Found(_, b) = ring_end else {
+        return stopped(ring_end);
+    };
+    let count = sheet_lines::line(bytes, b, 0, limits::MARKS_MOST);
+    let Piece::Found(mark_count, c) = count else {
+        return stopped(count);
+    };
+    let marked = marks::mark_lines(bytes, c, n, mark_count);
+    let marks_end = marked.end;
+    let Piece::Found(_, d) = marks_end else {
+        return stopped(marks_end);
+    };
+    let count = sheet_lines::line(bytes, d, 0, limits::SLOTS_MOST);
+    let Piece::Found(slot_count, e) = count else {
+        return stopped(count);
+    };
+    let heard = slots::slot_lines(bytes, e, slot_count);
+    let slots_end = heard.end;
+    let Piece::Found(_, end) = slots_end else {
+        return stopped(slots_end);
+    };
     if end < bytes.len() {
-        return refused(Refusal::BytesAfter, end);
+        return stopped(Piece::Offence(Refusal::BytesAfter, end));
     }
-    Reading {
-        answer: Answer::Read,
+    let modules = ring.list;
+    let marks = marked.list;
+    let slots = heard.list;
+    let sheet = Sheet {
+        n,
+        modules,
+        mark_count,
+        marks,
+        slot_count,
+        slots,
+    };
+    Whole {
         sheet,
+        end: Piece::Found(slot_count, end),
     }
 }
 
@@ -89,37 +120,17 @@ fn whole(bytes: &[u8], end: usize, sheet: Sheet) -> Reading
 pub fn read(bytes: &[u8]) -> Reading
     ensures { λ r. ⌜ ReadPromise (now (bytes .entry)) r ⌝ }
 {
-    let ring = modules::ring_section(bytes);
-    let ring_end = ring.end;
-    match ring_end {
-        Piece::Offence(why, place) => refused(why, place),
-        Piece::Found(n, a) => {
-            let marked = marks::mark_section(bytes, a, n);
-            let marks_end = marked.end;
-            match marks_end {
-                Piece::Offence(why, place) => refused(why, place),
-                Piece::Found(mark_count, b) => {
-                    let heard = slots::slot_section(bytes, b);
-                    let slots_end = heard.end;
-                    match slots_end {
-                        Piece::Offence(why, place) => refused(why, place),
-                        Piece::Found(slot_count, end) => {
-                            let modules = ring.list;
-                            let marks = marked.list;
-                            let slots = heard.list;
-                            let sheet = Sheet {
-                                n,
-                                modules,
-                                mark_count,
-                                marks,
-                                slot_count,
-                                slots,
-                            };
-                            whole(bytes, end, sheet)
-                        }
-                    }
-                }
-            }
-        }
+    let whole = sheet_in(bytes);
+    let end = whole.end;
+    let sheet = whole.sheet;
+    let Piece::Offence(why, place) = end else {
+        return Reading {
+            answer: ReadAnswer::Read,
+            sheet,
+        };
+    };
+    Reading {
+        answer: ReadAnswer::Refused(why, place),
+        sheet,
     }
 }

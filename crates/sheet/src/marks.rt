@@ -1,20 +1,22 @@
-// The second section: the marks.
+// The lines of the second section: the marks.
 ghost use mathlib.Core.Path.{_≡_};
 ghost use Prim.Native.Nat.{_≤_, _<_};
 ghost use Rattle.limits.specs.Limits.{seatsMost, marksMost};
-ghost use Rattle.sheet.specs.Sections.{entriesAt, sectionAt};
+ghost use Rattle.sheet.specs.Entries.{entriesAt};
 ghost use Rattle.sheet.specs.Marks.{mark, noMark, ascends, allowed, markOffence, fieldsAt, markLine};
 ghost use Rattle.sheet.specs.Sheets.{noMarks};
-ghost use Rattle.sheet.specs.Inside.{sectionOf, fieldsOf, offenceOf};
+ghost use Rattle.sheet.specs.Inside.{beside, fieldsOf, offenceOf};
 use crate::Mark;
 use limits::Refusal;
 use sheet_lines::Piece;
 use sheet_lines::Want;
 
-// A mark line's fields and the place after them, or the offence.
-enum Line {
-    Fields(usize, usize, u8, usize),
-    Offence(Refusal, usize),
+// A mark line's fields; and the place after them, or the offence.
+struct Line {
+    time: usize,
+    seat: usize,
+    kind: u8,
+    end: Piece,
 }
 
 // What a mark's values come to.
@@ -28,19 +30,38 @@ pub struct Marks {
     pub end: Piece,
 }
 
+fn no_line(end: Piece) -> Line
+    ensures { λ r. ⌜ fieldsOf r ≡ beside noMark end ⌝ }
+{
+    Line {
+        time: 0,
+        seat: 0,
+        kind: 0,
+        end,
+    }
+}
+
 // `time seat kind`, to the line's end.
 fn fields(s: &[u8], at: usize) -> Line
     ensures { λ r. ⌜ fieldsOf r ≡ fieldsAt (now (s .entry)) at ⌝ }
 {
-    match sheet_lines::spaced(s, at) {
-        Piece::Offence(why, place) => Line::Offence(why, place),
-        Piece::Found(time, a) => match sheet_lines::spaced(s, a) {
-            Piece::Offence(why, place) => Line::Offence(why, place),
-            Piece::Found(seat, b) => match sheet_lines::lone(s, b, Want::Kind) {
-                Piece::Offence(why, place) => Line::Offence(why, place),
-                Piece::Found(kind, next) => Line::Fields(time, seat, kind as u8, next),
-            },
-        },
+    let first = sheet_lines::spaced(s, at);
+    let Piece::Found(time, a) = first else {
+        return no_line(first);
+    };
+    let second = sheet_lines::spaced(s, a);
+    let Piece::Found(seat, b) = second else {
+        return no_line(second);
+    };
+    let end = sheet_lines::lone(s, b, Want::Kind);
+    let Piece::Found(kind, _) = end else {
+        return no_line(end);
+    };
+    Line {
+        time,
+        seat,
+        kind: kind as u8,
+        end,
     }
 }
 
@@ -68,10 +89,10 @@ fn is_allowed(n: usize, time: usize, seat: usize, kind: u8) -> bool
     ensures { λ r. ⌜ r ≡ allowed n (mark time seat kind) ⌝ }
 {
     let owner = time % n;
-    if kind == crate::SEND {
+    if kind == sheet_lines::SEND {
         return seat == owner;
     }
-    if kind == crate::RECEIVE {
+    if kind == sheet_lines::RECEIVE {
         return seat != owner;
     }
     true
@@ -82,7 +103,7 @@ fn first_offence(n: usize, k: usize, last: Mark, time: usize, seat: usize, kind:
     requires { ⌜ 0 < n ⌝ }
     ensures { λ r. ⌜ offenceOf r ≡ markOffence n k last (mark time seat kind) ⌝ }
 {
-    if (limits::SLOTS_MOST as usize) <= time {
+    if limits::SLOTS_MOST <= time {
         return Check::Bad(Refusal::OutsideLimits);
     }
     if n <= seat {
@@ -114,57 +135,38 @@ pub fn no_marks() -> [Mark; limits::MARKS_MOST]
 }
 
 // So many mark lines from `start` on, of a ring of n seats.
-fn mark_lines(s: &[u8], start: usize, n: usize, count: usize) -> Marks
+pub fn mark_lines(s: &[u8], start: usize, n: usize, count: usize) -> Marks
     requires { ⌜ (count ≤ marksMost) × (0 < n) × (n ≤ seatsMost) ⌝ }
-    ensures { λ r. ⌜ sectionOf (r .list) (r .end) ≡ entriesAt (markLine n (now (s .entry))) noMarks count start ⌝ }
+    ensures { λ r. ⌜ beside (r .list) (r .end) ≡ entriesAt (markLine n (now (s .entry))) noMarks count start ⌝ }
 {
     let mut list = no_marks();
     let mut last = no_mark();
     let mut at = start;
     let mut k: usize = 0;
     while k < count {
-        match fields(s, at) {
-            Line::Offence(why, place) => {
-                return Marks {
-                    list,
-                    end: Piece::Offence(why, place),
-                };
-            }
-            Line::Fields(time, seat, kind, next) => {
-                let verdict = first_offence(n, k, last, time, seat, kind);
-                if let Check::Bad(why) = verdict {
-                    return Marks {
-                        list,
-                        end: Piece::Offence(why, at),
-                    };
-                }
-                last = Mark {
-                    time: time as u16,
-                    seat: seat as u8,
-                    kind,
-                };
-                list[k] = last;
-                k += 1;
-                at = next;
-            }
+        let line = fields(s, at);
+        let end = line.end;
+        let Piece::Found(_, next) = end else {
+            return Marks { list, end };
+        };
+        let verdict = first_offence(n, k, last, line.time, line.seat, line.kind);
+        if let Check::Bad(why) = verdict {
+            return Marks {
+                list,
+                end: Piece::Offence(why, at),
+            };
         }
+        last = Mark {
+            time: line.time as u16,
+            seat: line.seat as u8,
+            kind: line.kind,
+        };
+        list[k] = last;
+        k += 1;
+        at = next;
     }
     Marks {
         list,
         end: Piece::Found(count, at),
     }
-}
-
-pub fn mark_section(s: &[u8], at: usize, n: usize) -> Marks
-    requires { ⌜ (0 < n) × (n ≤ seatsMost) ⌝ }
-    ensures { λ r. ⌜ sectionOf (r .list) (r .end) ≡ sectionAt 0 marksMost (markLine n (now (s .entry))) noMarks (now (s .entry)) at ⌝ }
-{
-    let count = sheet_lines::line(s, at, 0, limits::MARKS_MOST);
-    let Piece::Found(m, next) = count else {
-        return Marks {
-            list: no_marks(),
-            end: count,
-        };
-    };
-    mark_lines(s, next, n, m)
 }

@@ -1,28 +1,28 @@
-// The third section: what the bus recorder heard.
+// The lines of the third section: what the bus recorder heard.
 ghost use mathlib.Core.Path.{_≡_};
 ghost use Prim.Native.Nat.{_≤_};
 ghost use Rattle.limits.specs.Limits.{slotsMost};
-ghost use Rattle.sheet.specs.Sections.{entriesAt, sectionAt, slotLine};
+ghost use Rattle.sheet.specs.Entries.{entriesAt, slotLine};
 ghost use Rattle.sheet.specs.Sheets.{noSlots};
-ghost use Rattle.sheet.specs.Inside.{sectionOf};
+ghost use Rattle.sheet.specs.Inside.{beside};
 use sheet_lines::Piece;
 use sheet_lines::Want;
 
 pub struct Slots {
-    pub list: [u8; limits::SLOTS_MOST as usize],
+    pub list: [u8; limits::SLOTS_MOST],
     pub end: Piece,
 }
 
-pub fn no_slots() -> [u8; limits::SLOTS_MOST as usize]
+pub fn no_slots() -> [u8; limits::SLOTS_MOST]
     ensures { λ r. ⌜ r ≡ noSlots ⌝ }
 {
-    [0u8; limits::SLOTS_MOST as usize]
+    [0u8; limits::SLOTS_MOST]
 }
 
 // So many slot lines from `start` on.
-fn slot_lines(s: &[u8], start: usize, count: usize) -> Slots
+pub fn slot_lines(s: &[u8], start: usize, count: usize) -> Slots
     requires { ⌜ count ≤ slotsMost ⌝ }
-    ensures { λ r. ⌜ sectionOf (r .list) (r .end) ≡ entriesAt (slotLine (now (s .entry))) noSlots count start ⌝ }
+    ensures { λ r. ⌜ beside (r .list) (r .end) ≡ entriesAt (slotLine (now (s .entry))) noSlots count start ⌝ }
 {
     let mut list = no_slots();
     let mut at = start;
@@ -40,17 +40,4 @@ fn slot_lines(s: &[u8], start: usize, count: usize) -> Slots
         list,
         end: Piece::Found(count, at),
     }
-}
-
-pub fn slot_section(s: &[u8], at: usize) -> Slots
-    ensures { λ r. ⌜ sectionOf (r .list) (r .end) ≡ sectionAt 0 slotsMost (slotLine (now (s .entry))) noSlots (now (s .entry)) at ⌝ }
-{
-    let count = sheet_lines::line(s, at, 0, limits::SLOTS_MOST as usize);
-    let Piece::Found(h, next) = count else {
-        return Slots {
-            list: no_slots(),
-            end: count,
-        };
-    };
-    slot_lines(s, next, h)
 }

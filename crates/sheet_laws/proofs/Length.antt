@@ -13,7 +13,7 @@ use Rattle.limits.specs.Limits.{seatsLeast, seatsMost, marksMost, slotsMost, mo
 use Rattle.sheet_lines.specs.Found.{Found, found, offence, onFound, andThen}
 use Rattle.sheet_lines.specs.Bytes.{isDigit, isSpace, isLineFeed, byteAt, digitsAt, numberAt}
 use Rattle.sheet_lines.specs.Lines.{endAt, ended, lineAt, spacedAt}
-use Rattle.sheet.specs.Sections.{linesAt}
+use Rattle.sheet.specs.Entries.{linesAt}
 use Rattle.sheet.specs.Sheets.{sheetIn}
 use Rattle.sheet.specs.declared.Sheet.{Sheet}
 use Rattle.sheet_lines.proofs.ByteLaws.{byte-found}
@@ -21,7 +21,7 @@ use Rattle.sheet_lines.proofs.NumberLaws.{digit-range}
 use Rattle.sheet_lines.proofs.LineLaws.{then-found, found-value, found-next, ended-found, line-within}
 use Rattle.sheet.proofs.MarkLaws.{good-mark}
 use Rattle.sheet_laws.specs.Length.{sheetMost}
-use Rattle.sheet_laws.proofs.Parts.{module-found, slot-found, mark-line-found, fields-found, sheet-found}
+use Rattle.sheet.proofs.Parts.{module-found, slot-found, mark-line-found, fields-found, sheet-found}
 
 -- ---- numbers: a value says how long its digits are
 
@@ -127,8 +127,8 @@ longest s sheet end e =
     let r2 = lines-short _ 6 (λ at k b a n q. let z = line-short 1 moduleMost s at _ n (module-found s at k b a n q .read) 4 (lit< tt) in omega arith) _ _ 0 _ _ _ (r .lines) in
     let m1 = line-short 0 marksMost s _ _ _ (m .counted) 2 (lit< tt) in
     let m2 = lines-short _ 10 (λ at k b a n q.
-    let x = mark-line-found (g .ring .count) s at k b a n q in
-    let w = good-mark (g .ring .count) k _ (x .one) (x .good) in
+    let x = mark-line-found (sheet .n) s at k b a n q in
+    let w = good-mark (sheet .n) k _ (x .one) (x .good) in
     let f = fields-found s at (x .one) n (x .read) in
     let t = spaced-short s at (x .one .time) (f .seatAt) (f .time) 3 (omega arith) in
     let p = spaced-short s (f .seatAt) (x .one .seat) (f .kindAt) (f .seat) 1 (omega arith) in

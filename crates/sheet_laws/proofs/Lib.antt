@@ -1,8 +1,7 @@
 -- The files that prove the theorems on the reader.
 pub mod Unique
-pub mod Parts
-pub mod Good
 pub mod Length
 pub mod Readers
 pub mod Sight
-pub mod Numbers
+pub mod Refusals
+pub mod EmptyReader

@@ -1,7 +1,7 @@
 -- What a reader has seen of a sheet when it answers, and that no more than that can change its answer: for readers in turn, for bytes and for numbers.
 -- Assumes nothing.
 use mathlib.Core.Path.{_≡_, refl, sym, ap, ap₂, _∙_}
-use mathlib.Core.Bool.{Bool, true, false, cond}
+use mathlib.Core.Bool.{Bool, true, false, cond, false≢true}
 use mathlib.Core.List.{List}
 use mathlib.Core.Logic.{_⊎_, inl, inr, ⊎-elim}
 use Prim.Native.Nat.{ℕ, zero, suc, _+_, _*_, _-_, _≤_, _<_}
@@ -10,7 +10,7 @@ use native.Mathlib.Omega.{arith}
 use lib.ListN.{length, getD}
 use lib.Dec.{ltb, eqb}
 use borrow.Author.Tests.{lt-ltb, ltb-true}
-use Rattle.limits.specs.Refusals.{numberOf}
+use Rattle.limits.specs.Refusals.{numberOf, ofLine}
 use Rattle.limits.specs.declared.Refusal.{Refusal}
 use Rattle.limits.specs.declared.Refusal.the-variants.{EndsEarly, WrongByte}
 use Rattle.sheet_lines.specs.Found.{Found, found, offence, onFound, andThen}
@@ -30,10 +30,6 @@ byte-same can s t at seen w l =
     rw (lt-ltb at (length s) (omega arith), lt-ltb at (length t) (omega arith), w .bytes at l)
 
 -- ---- what a reader has seen when it answers: a reader is a function of the sheet, and s is the sheet that it is given
-
--- a reason that is given for a whole line
-unfoldable pub OfLine : Refusal → Type 0
-OfLine why = (3 ≤ numberOf why) × (numberOf why ≤ 6)
 
 module _ {A : Type 0} (from : ℕ) (read : List ℕ → Found A) (s : List ℕ) where
   pub record Stops : Type 0 where
@@ -118,13 +114,12 @@ module _ {A B : Type 0} (from : ℕ) (read : List ℕ → Found A) (more : A →
 
 -- what no sheet can change any more
 pub settled : {A : Type 0} (s : List ℕ) (n : ℕ) (answer : Found A) → n ≤ length s → ((a : A) (next : ℕ) → answer ≡ found a next → next ≡ n)
-    → ((why : Refusal) (place : ℕ) → answer ≡ offence why place → (place < n) × OfLine why) → Sees n (λ t. answer) s before
-unfolding OfLine
+    → ((why : Refusal) (place : ℕ) → answer ≡ offence why place → (place < n) × (ofLine why ≡ true)) → Sees n (λ t. answer) s before
 settled s n answer l f g =
     record {
       stops =
           record {
-            early = λ place e. absurd (omega (arith, g EndsEarly place e .1));
+            early = λ place e. absurd (false≢true (g EndsEarly place e .1));
             other = λ why place x e.
                 let q = g why place e in
                 record {
@@ -132,7 +127,7 @@ settled s n answer l f g =
                   after = le-refl n;
                   past = q .0;
                   inside = l;
-                  here = ⊎-elim (λ y. absurd (omega (arith, q .1, ap numberOf y))) (λ y. absurd (omega (arith, q .1, ap numberOf y)));
+                  here = ⊎-elim (λ y. absurd (false≢true (sym (ap ofLine y) ∙ q .1))) (λ y. absurd (false≢true (sym (ap ofLine y) ∙ q .1)));
                   alike = λ t w. e;
                 };
           };
@@ -144,7 +139,7 @@ pub rests : {A : Type 0} (s : List ℕ) (n : ℕ) (a : A) → n ≤ length s →
 rests s n a l = settled s n (found a n) l (λ b next e. sym (found-next e)) (λ why place e. not-both why (sym e))
 
 -- a test of a whole line
-pub tests : {A : Type 0} (s : List ℕ) (n : ℕ) (ok : Bool) (a : A) (why : Refusal) (place : ℕ) → n ≤ length s → place + 1 ≤ n → OfLine why
+pub tests : {A : Type 0} (s : List ℕ) (n : ℕ) (ok : Bool) (a : A) (why : Refusal) (place : ℕ) → n ≤ length s → place + 1 ≤ n → ofLine why ≡ true
     → Sees n (λ t. cond ok (found a n) (offence why place)) s before
 tests s n true a why place l p o = rests s n a l
 tests s n false a why place l p o =

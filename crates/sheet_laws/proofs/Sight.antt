@@ -12,20 +12,21 @@ use lib.ListN.{length, getD, set, length-append, List·getD-append}
 use lib.Dec.{ltb}
 use borrow.Author.Tests.{lt-ltb, ltb-true}
 use Rattle.limits.specs.Limits.{seatsLeast, seatsMost, marksMost, slotsMost, moduleMost}
-use Rattle.limits.specs.Refusals.{numberOf}
+use Rattle.limits.specs.Refusals.{numberOf, ofLine}
 use Rattle.limits.specs.declared.Refusal.{Refusal}
-use Rattle.limits.specs.declared.Refusal.the-variants.{EndsEarly, WrongByte, OutsideLimits, ModuleTwice, MarkNotAbove, WrongMark, BytesAfter}
+use Rattle.limits.specs.declared.Refusal.the-variants.{EndsEarly, WrongByte, OutsideLimits, ModuleTwice, BytesAfter}
 use Rattle.sheet_lines.specs.Found.{Found, found, offence, andThen}
 use Rattle.sheet_lines.specs.Bytes.{isSpace, isLineFeed, isKind, isHeard, byteAt, numberAt}
 use Rattle.sheet_lines.specs.Lines.{endAt, ended, within, lineAt, spacedAt}
-use Rattle.sheet.specs.Sections.{linesAt, section, entriesAt, sectionAt, isNew, moduleLine, slotLine}
-use Rattle.sheet.specs.Marks.{mark, noMark, markWithin, ascends, allowed, markOffence, onOption, fieldsAt, markLine}
+use Rattle.sheet.specs.Entries.{linesAt, countAt, entriesAt, isNew, moduleLine, slotLine}
+use Rattle.sheet.specs.Marks.{mark, noMark, markOffence, onOption, fieldsAt, markLine}
 use Rattle.sheet.specs.Sheets.{noModules, noMarks, noSlots, sheetFrom, sheetIn}
 use Rattle.sheet.specs.declared.Mark.{Mark}
 use Rattle.sheet.specs.declared.Sheet.{Sheet}
 use Rattle.sheet_lines.proofs.ByteLaws.{not-both}
+use Rattle.sheet.proofs.MarkLaws.{mark-offence}
 use Rattle.sheet_laws.specs.Sight.{Same, Stopped}
-use Rattle.sheet_laws.proofs.Readers.{fewer, OfLine, Stops, Sees, before, through, near, next-to, then-stops, then-sees, rests, tests, later, byte-sees, number-sees}
+use Rattle.sheet_laws.proofs.Readers.{fewer, Stops, Sees, before, through, near, next-to, then-stops, then-sees, rests, tests, later, byte-sees, number-sees}
 
 -- ---- lines
 
@@ -51,19 +52,19 @@ byte-line-sees can s at =
     (λ value a e l. later (next-to a) (ending s a value))
 
 line-sees : (least most : ℕ) (s : List ℕ) (at : ℕ) → Sees (at + 1) (λ t. lineAt least most t at) s before
-unfolding lineAt OfLine
+unfolding lineAt
 line-sees least most s at =
     then-sees (at + 1) (λ t. ended t (numberAt t at)) (λ value n t. cond (within least most value) (found value n) (offence OutsideLimits at)) s before near
     (number-line-sees s at)
-    (λ value n e l. tests s n (within least most value) value OutsideLimits at l (number-line-sees s at .goes value n e .after) (omega arith, omega arith))
+    (λ value n e l. tests s n (within least most value) value OutsideLimits at l (number-line-sees s at .goes value n e .after) refl)
 
 module-sees : (s : List ℕ) (at k : ℕ) (modules : List ℕ) → Sees (at + 1) (λ t. moduleLine t at k modules) s before
-unfolding moduleLine OfLine
+unfolding moduleLine
 module-sees s at k modules =
     then-sees (at + 1) (λ t. lineAt 1 moduleMost t at) (λ number n t. cond (isNew number k modules) (found (set modules k number) n) (offence ModuleTwice at)) s
     before near (line-sees 1 moduleMost s at)
     (λ number n e l.
-    tests s n (isNew number k modules) (set modules k number) ModuleTwice at l (line-sees 1 moduleMost s at .goes number n e .after) (omega arith, omega arith))
+    tests s n (isNew number k modules) (set modules k number) ModuleTwice at l (line-sees 1 moduleMost s at .goes number n e .after) refl)
 
 slot-sees : (s : List ℕ) (at k : ℕ) (slots : List ℕ) → Sees (at + 1) (λ t. slotLine t at k slots) s before
 unfolding slotLine
@@ -93,17 +94,6 @@ fields-sees s at =
     (then-sees (b + 1) (λ t. ended t (byteAt isKind t b)) (λ kind n t. found (mark time seat kind) n) s before near (byte-line-sees isKind s b)
     (λ kind n e l. rests s n (mark time seat kind) l)))))
 
--- the reasons for which a mark is refused are those of a line
-mark-offence-of-line : (n k : ℕ) (last m : Mark) (why : Refusal) → markOffence n k last m ≡ some why → OfLine why
-unfolding markOffence OfLine
-mark-offence-of-line n k last m why e = go (markWithin n m) (ascends k last m) (allowed n m) e
-  where
-    go : (a b c : Bool) → cond a (cond b (cond c none (some WrongMark)) (some MarkNotAbove)) (some OutsideLimits) ≡ some why → (3 ≤ numberOf why) × (numberOf why ≤ 6)
-    go true true true h = let z : _≡_ {A = ℕ} 0 1 = cc in absurd (omega arith)
-    go true true false h = let q : WrongMark ≡ why = cc in rw (← q) (omega arith, omega arith)
-    go true false c h = let q : MarkNotAbove ≡ why = cc in rw (← q) (omega arith, omega arith)
-    go false b c h = let q : OutsideLimits ≡ why = cc in rw (← q) (omega arith, omega arith)
-
 mark-sees : (n : ℕ) (s : List ℕ) (at k : ℕ) (marks : List Mark) → Sees (at + 1) (λ t. markLine n t at k marks) s before
 unfolding markLine
 mark-sees n s at k marks =
@@ -114,9 +104,9 @@ mark-sees n s at k marks =
     go : (m : Mark) (next : ℕ) → next ≤ length s → at + 1 ≤ next → (o : Option Refusal) → markOffence n k (getD marks (k - 1) noMark) m ≡ o
         → Sees next (λ t. onOption o (found (set marks k m) next) (λ why. offence why at)) s before
     go m next l p none q = rests s next (set marks k m) l
-    go m next l p (some why) q = tests s next false (set marks k m) why at l p (mark-offence-of-line n k (getD marks (k - 1) noMark) m why q)
+    go m next l p (some why) q = tests s next false (set marks k m) why at l p (mark-offence ofLine refl refl refl n k (getD marks (k - 1) noMark) m why q)
 
--- ---- sections
+-- ---- so many lines
 
 module _ {A : Type 0} (line : List ℕ → ℕ → ℕ → List A → Found (List A)) (s : List ℕ) (one : (at k : ℕ) (entries : List A) → Sees (at + 1) (λ t. line t at k entries) s before) where
   lines-see : (more at k : ℕ) (entries : List A) → at ≤ length s → Sees at (λ t. linesAt (line t) more at k entries) s before
@@ -125,14 +115,6 @@ module _ {A : Type 0} (line : List ℕ → ℕ → ℕ → List A → Found (Lis
   lines-see (suc more) at k entries l =
       then-sees at (λ t. line t at k entries) (λ entries n t. linesAt (line t) more n (k + 1) entries) s before near (later (next-to at) (one at k entries))
       (λ entries n e l. lines-see more n (k + 1) entries l)
-
-  section-sees : (least most : ℕ) (empty : List A) (at : ℕ) → Sees at (λ t. sectionAt least most (line t) empty t at) s before
-  unfolding sectionAt
-  section-sees least most empty at =
-      then-sees at (λ t. lineAt least most t at) (λ count first t. entriesAt (line t) empty count first) s before near (later (next-to at) (line-sees least most s at))
-      (λ count first e l.
-      then-sees first (λ t. linesAt (line t) count first 0 empty) (λ entries n t. found (section count entries) n) s before near (lines-see count first 0 empty l)
-      (λ entries n e l. rests s n (section count entries) l))
 
 -- ---- the sheet
 
@@ -159,24 +141,25 @@ last-stops s end sheet =
         }
     other why place false p h = not-both why (sym h)
 
+-- a count, and the lines after it
+count-sees : (least most : ℕ) (s : List ℕ) (at : ℕ) → Sees at (λ t. countAt least most t at) s before
+count-sees least most s at = later (next-to at) (line-sees least most s at)
+
 sheet-stops : (s : List ℕ) → Stops 0 sheetIn s
 unfolding sheetIn
 sheet-stops s =
-    then-stops 0 (λ t. sectionAt seatsLeast seatsMost (moduleLine t) noModules t 0)
-    (λ ring a t. andThen (sectionAt 0 marksMost (markLine (ring .count) t) noMarks t a)
-    (λ marks b. andThen (sectionAt 0 slotsMost (slotLine t) noSlots t b)
-    (λ slots end. cond (ltb end (length t)) (offence BytesAfter end) (found (sheetFrom ring marks slots) end)))) s before near
-    (section-sees moduleLine s (module-sees s) seatsLeast seatsMost noModules 0)
-    (λ ring a e l.
-    then-stops a (λ t. sectionAt 0 marksMost (markLine (ring .count) t) noMarks t a)
-    (λ marks b t. andThen (sectionAt 0 slotsMost (slotLine t) noSlots t b)
-    (λ slots end. cond (ltb end (length t)) (offence BytesAfter end) (found (sheetFrom ring marks slots) end))) s before near
-    (section-sees (markLine (ring .count)) s (mark-sees (ring .count) s) 0 marksMost noMarks a)
-    (λ marks b e l.
-    then-stops b (λ t. sectionAt 0 slotsMost (slotLine t) noSlots t b)
-    (λ slots end t. cond (ltb end (length t)) (offence BytesAfter end) (found (sheetFrom ring marks slots) end)) s before near
-    (section-sees slotLine s (slot-sees s) 0 slotsMost noSlots b)
-    (λ slots end e l. last-stops s end (sheetFrom ring marks slots))))
+    then-stops 0 (λ t. countAt seatsLeast seatsMost t 0) _ s before near (count-sees seatsLeast seatsMost s 0)
+    (λ n a e l.
+    then-stops a (λ t. entriesAt (moduleLine t) noModules n a) _ s before near (lines-see moduleLine s (module-sees s) n a 0 noModules l)
+    (λ modules b e l.
+    then-stops b (λ t. countAt 0 marksMost t b) _ s before near (count-sees 0 marksMost s b)
+    (λ markCount c e l.
+    then-stops c (λ t. entriesAt (markLine n t) noMarks markCount c) _ s before near (lines-see (markLine n) s (mark-sees n s) markCount c 0 noMarks l)
+    (λ marks d e l.
+    then-stops d (λ t. countAt 0 slotsMost t d) _ s before near (count-sees 0 slotsMost s d)
+    (λ slotCount f e l.
+    then-stops f (λ t. entriesAt (slotLine t) noSlots slotCount f) _ s before near (lines-see slotLine s (slot-sees s) slotCount f 0 noSlots l)
+    (λ slots end e l. last-stops s end (sheetFrom n modules markCount marks slotCount slots)))))))
 
 -- 1 is given at the sheet's length
 pub refused-early : (s : List ℕ) (place : ℕ) → sheetIn s ≡ offence EndsEarly place → place ≡ length s

@@ -2,18 +2,18 @@
 use mathlib.Core.Path.{_≡_, refl, sym, ap₂, _∙_}
 use mathlib.Core.List.{List}
 use Prim.Native.Nat.{ℕ}
-use native.Mathlib.Omega.{arith}
 use Rattle.limits.specs.Refusals.{numberOf}
 use Rattle.limits.proofs.Refusals.{one-reason}
 use Rattle.sheet_lines.specs.Pieces.{foundOf}
 use Rattle.sheet_lines.specs.declared.Piece.{Piece}
 use Rattle.sheet_lines.specs.declared.Piece.the-variants as piece
 use Rattle.sheet_lines.proofs.ByteLaws.{not-both}
-use Rattle.sheet.specs.Sheets.{told, ReadPromise}
+use Rattle.sheet.specs.Sheets.{readTells, ReadPromise}
 use Rattle.sheet.specs.declared.Sheet.{Sheet}
-use Rattle.sheet.specs.declared.Answer.{Answer}
-use Rattle.sheet.specs.declared.Answer.the-variants.{Read, Refused}
+use Rattle.sheet.specs.declared.ReadAnswer.{ReadAnswer}
+use Rattle.sheet.specs.declared.ReadAnswer.the-variants.{Read, Refused}
 use Rattle.sheet.specs.declared.Reading.{Reading}
+use Rattle.sheet.proofs.SheetLaws.{not-done}
 
 -- ---- a piece of a line
 
@@ -33,17 +33,17 @@ one-piece (piece.Offence why place) (piece.Offence why′ place′) e =
 -- ---- a reading
 
 -- an answer is what it says
-told-one : (a b : Answer) → told a ≡ told b → a ≡ b
-told-one Read Read e = refl
-told-one Read (Refused why place) e = let z : _≡_ {A = ℕ} 0 1 = cc in absurd (omega arith)
-told-one (Refused why place) Read e = let z : _≡_ {A = ℕ} 0 1 = cc in absurd (omega arith)
-told-one (Refused why place) (Refused why′ place′) e =
+one-answer : (a b : ReadAnswer) → readTells a ≡ readTells b → a ≡ b
+one-answer Read Read e = refl
+one-answer Read (Refused why place) e = not-done (sym e)
+one-answer (Refused why place) Read e = not-done e
+one-answer (Refused why place) (Refused why′ place′) e =
     let n : numberOf why ≡ numberOf why′ = cc in
     let p : place ≡ place′ = cc in
     ap₂ Refused (one-reason why why′ n) p
 
 pub one-reading : (bytes : List ℕ) (a b : Reading) → ReadPromise bytes a → ReadPromise bytes b → a ≡ b
 one-reading bytes a b p q =
-    let x = told-one (a .answer) (b .answer) (p .answer ∙ sym (q .answer)) in
+    let x = one-answer (a .answer) (b .answer) (p .answer ∙ sym (q .answer)) in
     let y : a .sheet ≡ b .sheet = p .sheet ∙ sym (q .sheet) in
-    ap₂ (λ (answer : Answer) (sheet : Sheet). record { answer = answer; sheet = sheet }) x y
+    ap₂ (λ (answer : ReadAnswer) (sheet : Sheet). record { answer = answer; sheet = sheet }) x y

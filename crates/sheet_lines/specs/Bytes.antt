@@ -20,10 +20,10 @@ dark = 68
 
 -- what the bus recorder heard: `1`, `0`, and `-` for silence
 abbrev pub heardOne : ℕ
-heardOne = 49
+heardOne = digit 1
 
 abbrev pub heardZero : ℕ
-heardZero = 48
+heardZero = digit 0
 
 abbrev pub heardSilence : ℕ
 heardSilence = 45

@@ -1,6 +1,6 @@
 -- `run`: the reader's answer decides. Assumes nothing.
 use borrow.Author.Needs.{needs}
-use Rattle.sheet_laws.proofs.Good.{reading-good}
+use Rattle.sheet.proofs.Good.{reading-good}
 use Rattle.run.proofs.Reading.{keeps-read, keeps-refused}
 use Rattle.run.proofs.run.Statement.{statement}
 use Rattle.run.proofs.run.Tie as tie

@@ -7,7 +7,7 @@ use Rattle.turn.specs.Turn.{spokenBy}
 use Rattle.ring.specs.Ring.{seatOf}
 use Rattle.ring.specs.Refusals.{stepTells}
 use Rattle.ring.specs.Promise.{StepPromise}
-use Rattle.sheet.specs.Good.{slotOf}
+use Rattle.sheet.specs.Good.{heardIn}
 use Rattle.run.specs.Marks.{ownerAt}
 use Rattle.run.specs.Inside.{givenBy}
 use Rattle.run.specs.declared.marks.SlotMarks.{SlotMarks}
@@ -61,7 +61,7 @@ said c =
 
 -- it is what was heard
 heard : (c : tie.Else3 Inv-loop μ-loop) → let l = c .before .before .before .before .before .before .before .before in let b = bench (l .loop .ring) (l .loop .trail) in
-    spokenOn (marksOn (start l .args .t1) b) b ≡ slotOf (start l .args .t1) (l .loop .at)
+    spokenOn (marksOn (start l .args .t1) b) b ≡ heardIn (start l .args .t1) (l .loop .at)
 heard c = sym (said (c .before .before)) ∙ c .if3 .left
 
 -- the step is given the slot's marks

@@ -29,7 +29,7 @@ pub first-offence-spec : {M : Type 1} → statement M
 first-offence-spec =
     tie.close
     (tie.spec
-    (λ c. search needs) returns
+    returns
     returns-2
     (λ c κs. search needs) (λ c κs. search needs) returns-3
     returns-4

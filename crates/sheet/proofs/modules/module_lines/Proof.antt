@@ -8,11 +8,11 @@ use lib.ListN.{getD}
 use borrow.Author.Count.{below-more}
 use Rattle.limits.specs.Limits.{moduleMost}
 use Rattle.limits.specs.declared.Refusal.the-variants.{ModuleTwice}
-use Rattle.sheet.specs.Sections.{moduleLine}
+use Rattle.sheet.specs.Entries.{moduleLine}
 use Rattle.sheet.specs.Sheets.{noModules}
 use Rattle.sheet_lines.specs.Pieces.{foundOf}
 use Rattle.sheet_lines.proofs.LineLaws.{line-within}
-use Rattle.sheet.proofs.SectionLaws.{is-new, not-new, Reached, begins, goes-on, stops, ends}
+use Rattle.sheet.proofs.EntryLaws.{is-new, not-new, Reached, begins, goes-on, stops, ends}
 use Rattle.sheet.proofs.modules.module_lines.Statement.{statement}
 use Rattle.sheet.proofs.modules.module_lines.Tie as tie
 
@@ -69,7 +69,7 @@ module-lines-spec =
     tie.close
     (tie.spec
     Inv-loop μ-loop Inv-lines μ-lines (λ c κs. search needs) lines-holds
-    (λ c. search needs) (λ c κs. search needs) (λ c. search needs) (λ c. search needs) returns
+    (λ c κs. search needs) (λ c. search needs) (λ c. search needs) returns
     cast-number
     (λ c. search needs) (λ c. search needs) (λ c. search needs) (λ c. search needs) (λ c. search needs) loop-again
     (λ c. search needs) (λ c. search needs) (λ c. search needs) (λ c. search needs) lines-again

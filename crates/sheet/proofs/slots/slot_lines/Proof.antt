@@ -6,9 +6,9 @@ use native.Mathlib.Omega.{arith}
 use Rattle.sheet_lines.specs.Bytes.{isHeard}
 use Rattle.sheet_lines.specs.Pieces.{foundOf}
 use Rattle.sheet_lines.proofs.LineLaws.{lone-found}
-use Rattle.sheet.specs.Sections.{slotLine}
+use Rattle.sheet.specs.Entries.{slotLine}
 use Rattle.sheet.specs.Sheets.{noSlots}
-use Rattle.sheet.proofs.SectionLaws.{heard-small, Reached, begins, goes-on, stops, ends}
+use Rattle.sheet.proofs.EntryLaws.{heard-small, Reached, begins, goes-on, stops, ends}
 use Rattle.sheet.proofs.slots.slot_lines.Statement.{statement}
 use Rattle.sheet.proofs.slots.slot_lines.Tie as tie
 

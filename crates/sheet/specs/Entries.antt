@@ -1,4 +1,4 @@
--- The sections of a sheet, each a count and as many lines; and the lines of the ring and of the slots.
+-- The entries of a sheet: counts, and as many lines; and the lines of the ring and of the slots.
 use Prim.Native.Nat.{ℕ, suc, zero, _+_}
 use mathlib.Core.Bool.{Bool, cond, not}
 use mathlib.Core.List.{List}
@@ -16,20 +16,13 @@ unfoldable pub linesAt : {S : Type 0} → (ℕ → ℕ → S → Found S) → �
 linesAt line zero at k entries = found entries at
 linesAt line (suc more) at k entries = andThen (line at k entries) (λ entries next. linesAt line more next (k + 1) entries)
 
-pub record Section (A : Type 0) : Type 0 where
-  pub count : ℕ
-  pub entries : List A
+-- a count alone on its line, within its limits
+abbrev pub countAt : ℕ → ℕ → List ℕ → ℕ → Found ℕ
+countAt least most sheet at = lineAt least most sheet at
 
-abbrev pub section : {A : Type 0} → ℕ → List A → Section A
-section count entries = record { count = count; entries = entries }
-
--- the lines of a section after its count; the entries past the count stay as they are in `none`
-abbrev pub entriesAt : {A : Type 0} → (ℕ → ℕ → List A → Found (List A)) → List A → ℕ → ℕ → Found (Section A)
-entriesAt line none count at = andThen (linesAt line count at 0 none) (λ entries next. found (section count entries) next)
-
--- a count within its limits, and as many lines
-unfoldable pub sectionAt : {A : Type 0} → ℕ → ℕ → (ℕ → ℕ → List A → Found (List A)) → List A → List ℕ → ℕ → Found (Section A)
-sectionAt least most line none sheet at = andThen (lineAt least most sheet at) (λ count first. entriesAt line none count first)
+-- and as many lines; the entries past the count stay as they are in `none`
+abbrev pub entriesAt : {A : Type 0} → (ℕ → ℕ → List A → Found (List A)) → List A → ℕ → ℕ → Found (List A)
+entriesAt line none count at = linesAt line count at 0 none
 
 -- ---- the lines of the ring and of the slots
 

@@ -3,14 +3,14 @@ use mathlib.Core.List.{List, [], _∷_}
 use mathlib.Core.Path.{_≡_, refl, sym, ap, _∙_}
 use Prim.Native.Nat.{ℕ}
 use Rattle.limits.specs.Refusals.{done, refused}
-use Rattle.steps.proofs.Taken.{not-done}
 use Rattle.sheet_lines.specs.Bytes.{byteAt, digitsAt, numberAt}
 use Rattle.sheet_lines.specs.Lines.{endAt, ended, lineAt, spacedAt}
-use Rattle.sheet.specs.Sections.{linesAt, sectionAt, isNew, moduleLine, slotLine}
+use Rattle.sheet.specs.Entries.{linesAt, isNew, moduleLine, slotLine}
 use Rattle.sheet.specs.Marks.{markOffence, fieldsAt, markLine}
-use Rattle.sheet.specs.Sheets.{noModules, noMarks, noSlots, sheetIn, told, toldOf}
+use Rattle.sheet.specs.Sheets.{noModules, noMarks, noSlots, sheetIn, readTells, readTold}
 use Rattle.sheet.specs.declared.Reading.{Reading}
-use Rattle.demand2.specs.EmptyReader.{Reader, Keeps, RefusesAll, Constant}
+use Rattle.sheet.proofs.SheetLaws.{not-done}
+use Rattle.sheet_laws.specs.EmptyReader.{Reader, Keeps, RefusesAll, Constant}
 
 -- ---- what is said
 
@@ -22,12 +22,12 @@ ShutOut Kind = (f : Reader) → Kind f → Keeps f → ⊥
 good : List ℕ
 good = 50 ∷ 10 ∷ 55 ∷ 10 ∷ 56 ∷ 10 ∷ 48 ∷ 10 ∷ 48 ∷ 10 ∷ []
 
-good-read : toldOf (sheetIn good) ≡ done
-unfolding good sheetIn sectionAt linesAt moduleLine isNew slotLine markLine fieldsAt spacedAt markOffence lineAt ended endAt numberAt digitsAt byteAt noModules noMarks noSlots
+good-read : readTold (sheetIn good) ≡ done
+unfolding good sheetIn linesAt moduleLine isNew slotLine markLine fieldsAt spacedAt markOffence lineAt ended endAt numberAt digitsAt byteAt noModules noMarks noSlots
 good-read = refl
 
-empty-refused : toldOf (sheetIn []) ≡ refused 1 0
-unfolding sheetIn sectionAt lineAt ended endAt numberAt digitsAt byteAt noModules
+empty-refused : readTold (sheetIn []) ≡ refused 1 0
+unfolding sheetIn lineAt ended endAt numberAt digitsAt byteAt noModules
 empty-refused = refl
 
 -- ---- the theorems
@@ -41,5 +41,5 @@ pub constant-read : ShutOut Constant
 constant-read f (r, same) keeps =
     not-done
     (sym (keeps [] .answer ∙ empty-refused)
-    ∙ ap (λ (x : Reading). told (x .answer)) (same [] ∙ sym (same good))
+    ∙ ap (λ (x : Reading). readTells (x .answer)) (same [] ∙ sym (same good))
     ∙ keeps good .answer ∙ good-read)

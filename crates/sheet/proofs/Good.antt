@@ -1,4 +1,4 @@
--- Every sheet that is read is good, as `GoodSheet` of `sheet` says it. Assumes nothing.
+-- Every sheet that is read is good, as specs/Good.antt says it. Assumes nothing.
 use mathlib.Core.Path.{_≡_, refl, sym, ap, _∙_}
 use mathlib.Core.Bool.{true, not}
 use mathlib.Core.List.{List}
@@ -15,17 +15,18 @@ use Rattle.lists.proofs.Tests.{all-at}
 use Rattle.limits.specs.Refusals.{done}
 use Rattle.sheet_lines.specs.Found.{Found, found, offence}
 use Rattle.sheet_lines.specs.Bytes.{isKind, isHeard}
-use Rattle.sheet.specs.Sections.{linesAt, isNew, moduleLine, slotLine}
+use Rattle.sheet.specs.Entries.{linesAt, isNew, moduleLine, slotLine}
 use Rattle.sheet.specs.Marks.{noMark, above, ascends, markLine}
-use Rattle.sheet.specs.Sheets.{noModules, noMarks, noSlots, sheetIn, told, toldOf, sheetOf, ReadPromise}
+use Rattle.sheet.specs.Sheets.{noModules, noMarks, noSlots, sheetIn, readTells, readTold, sheetOf, ReadPromise}
 use Rattle.sheet.specs.Good.{GoodSheet}
 use Rattle.sheet.specs.declared.Mark.{Mark}
 use Rattle.sheet.specs.declared.Sheet.{Sheet}
-use Rattle.sheet.specs.declared.Answer.the-variants.{Read}
+use Rattle.sheet.specs.declared.ReadAnswer.the-variants.{Read}
 use Rattle.sheet.specs.declared.Reading.{Reading}
 use Rattle.sheet_lines.proofs.LineLaws.{then-found, line-within, lone-found}
 use Rattle.sheet.proofs.MarkLaws.{Kept, good-mark}
-use Rattle.sheet_laws.proofs.Parts.{lines-others, module-found, slot-found, mark-line-found, fields-found, sheet-found}
+use Rattle.sheet.proofs.SheetLaws.{not-done}
+use Rattle.sheet.proofs.Parts.{lines-others, module-found, slot-found, mark-line-found, fields-found, sheet-found}
 
 -- ---- what holds of each entry, where it holds of the line that made it
 
@@ -118,12 +119,11 @@ read-good s sheet end e =
     let r = g .ring-is in
     let m = g .marks-is in
     let h = g .slots-is in
-    let n = g .ring .count in
+    let n = sheet .n in
     let ring = lines-each 0 (moduleLine s) ModuleHolds (makes-module s) (looks-module s) _ _ 0 _ _ _ (r .lines) (omega (arith, r .high, length-replicate {A = ℕ} seatsMost 0)) in
     let marks = lines-each noMark (markLine n s) (MarkHolds n) (makes-mark s n) (looks-mark s n) _ _ 0 _ _ _ (m .lines) (omega (arith, m .high, length-replicate marksMost noMark)) in
     let slots = lines-each 0 (slotLine s) SlotHolds (makes-slot s) (λ k b a x f y. y) _ _ 0 _ _ _ (h .lines) (omega (arith, h .high, length-replicate {A = ℕ} slotsMost 0)) in
-    rw (g .whole)
-    (record {
+    record {
       seats = (r .low, r .high);
       numbers = λ i l. let x = ring i (omega arith) (omega arith) in (x .0, x .1);
       different = λ i j l k. ring i (omega arith) (omega arith) .2 j k;
@@ -132,7 +132,7 @@ read-good s sheet end e =
       marked-seats = λ i l. marks i (omega arith) (omega arith) .0 .seat;
       kinds = λ i l. marks i (omega arith) (omega arith) .1;
       fitting = λ i l. marks i (omega arith) (omega arith) .0 .allows;
-      ascending = λ i l. above-last i (g .marks .entries) (getD (g .marks .entries) (suc i) noMark) (marks (suc i) (omega arith) (omega arith) .0 .above);
+      ascending = λ i l. above-last i (sheet .marks) (getD (sheet .marks) (suc i) noMark) (marks (suc i) (omega arith) (omega arith) .0 .above);
       slotted = h .high;
       heard = λ i l. slots i (omega arith) (omega arith);
       no-modules = λ i l k.
@@ -144,12 +144,12 @@ read-good s sheet end e =
       no-slots = λ i l k.
           lines-others 0 (slotLine s) (λ at k b a n q. let f = makes-slot s at k b a n q in (f .0, f .1)) _ _ 0 _ _ _ (h .lines) i (inr (omega arith))
           ∙ getD-replicate slotsMost i 0 0 k;
-    })
+    }
 
 -- for callers: a reading that answers `Read` has a good sheet beside the answer
 pub reading-good : (bytes : List ℕ) (r : Reading) → ReadPromise bytes r → r .answer ≡ Read → GoodSheet (r .sheet)
-reading-good bytes r p a = go (sheetIn bytes) refl (ap told (sym a) ∙ p .answer) (p .sheet)
+reading-good bytes r p a = go (sheetIn bytes) refl (ap readTells (sym a) ∙ p .answer) (p .sheet)
   where
-    go : (x : Found Sheet) → sheetIn bytes ≡ x → done ≡ toldOf x → r .sheet ≡ sheetOf x → GoodSheet (r .sheet)
+    go : (x : Found Sheet) → sheetIn bytes ≡ x → done ≡ readTold x → r .sheet ≡ sheetOf x → GoodSheet (r .sheet)
     go (found sheet end) q t s = rw s (read-good bytes sheet end q)
-    go (offence why place) q t s = let z : _≡_ {A = ℕ} 0 1 = cc in absurd (omega arith)
+    go (offence why place) q t s = not-done (sym t)

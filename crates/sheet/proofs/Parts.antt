@@ -1,4 +1,4 @@
--- A good sheet taken apart: what each of its lines has on it, its three sections, and which entries its lines change. Assumes nothing.
+-- A good sheet taken apart: what each of its lines has on it, its counts with their lines, and which entries its lines change. Assumes nothing.
 use mathlib.Core.Path.{_≡_, refl, sym, ap, _∙_}
 use mathlib.Core.Bool.{Bool, true, false, cond}
 use mathlib.Core.List.{List}
@@ -16,14 +16,13 @@ use Rattle.limits.specs.declared.Refusal.the-variants.{ModuleTwice, BytesAfter}
 use Rattle.sheet_lines.specs.Found.{Found, found, offence}
 use Rattle.sheet_lines.specs.Bytes.{byteAt, isKind, isHeard}
 use Rattle.sheet_lines.specs.Lines.{ended, lineAt, spacedAt}
-use Rattle.sheet.specs.Sections.{linesAt, Section, sectionAt, isNew, moduleLine, slotLine}
+use Rattle.sheet.specs.Entries.{linesAt, countAt, entriesAt, isNew, moduleLine, slotLine}
 use Rattle.sheet.specs.Marks.{mark, noMark, markOffence, onOption, fieldsAt, markLine}
 use Rattle.sheet.specs.Sheets.{noModules, noMarks, noSlots, sheetFrom, sheetIn}
 use Rattle.sheet.specs.declared.Mark.{Mark}
 use Rattle.sheet.specs.declared.Sheet.{Sheet}
 use Rattle.sheet_lines.proofs.ByteLaws.{not-both}
-use Rattle.sheet_lines.proofs.LineLaws.{then-found, cond-found, found-value, found-next}
-use Rattle.sheet.proofs.SectionLaws.{Counted, section-found}
+use Rattle.sheet_lines.proofs.LineLaws.{then-found, cond-found, found-value, found-next, line-within}
 
 -- ---- what a line that is found has on it, and what it makes of the entries
 
@@ -109,44 +108,57 @@ fields-found s at m next e =
       kind = k .2 ∙ ap (λ (m : Mark). found (m .kind) (k .1)) x ∙ ap (λ (n : ℕ). found (m .kind) n) (found-next (k .3));
     }
 
--- ---- the three sections of a good sheet
+-- ---- a good sheet
+
+-- a count within its limits, and as many lines
+pub record Counted {A : Type 0} (least most : ℕ) (line : ℕ → ℕ → List A → Found (List A)) (empty : List A) (s : List ℕ) (at count : ℕ) (entries : List A) (next : ℕ) : Type 0 where
+  pub first : ℕ
+  pub counted : countAt least most s at ≡ found count first
+  pub lines : entriesAt line empty count first ≡ found entries next
+  pub low : least ≤ count
+  pub high : count ≤ most
+
+both-found : {A : Type 0} (least most : ℕ) (line : ℕ → ℕ → List A → Found (List A)) (empty : List A) (s : List ℕ) (at count first : ℕ) (entries : List A) (next : ℕ)
+    → countAt least most s at ≡ found count first → entriesAt line empty count first ≡ found entries next → Counted least most line empty s at count entries next
+both-found least most line empty s at count first entries next e l =
+    let w = line-within least most s at count first e in
+    record { first = first; counted = e; lines = l; low = w .0; high = w .1 }
 
 pub record Good (s : List ℕ) (sheet : Sheet) (end : ℕ) : Type 0 where
-  pub ring : Section ℕ
-  pub marks : Section Mark
-  pub slots : Section ℕ
   pub marksAt : ℕ
   pub slotsAt : ℕ
-  pub whole : sheet ≡ sheetFrom ring marks slots
-  pub ring-is : Counted seatsLeast seatsMost (moduleLine s) noModules s 0 ring marksAt
-  pub marks-is : Counted 0 marksMost (markLine (ring .count) s) noMarks s marksAt marks slotsAt
-  pub slots-is : Counted 0 slotsMost (slotLine s) noSlots s slotsAt slots end
+  pub ring-is : Counted seatsLeast seatsMost (moduleLine s) noModules s 0 (sheet .n) (sheet .modules) marksAt
+  pub marks-is : Counted 0 marksMost (markLine (sheet .n) s) noMarks s marksAt (sheet .«mark_count») (sheet .marks) slotsAt
+  pub slots-is : Counted 0 slotsMost (slotLine s) noSlots s slotsAt (sheet .«slot_count») (sheet .slots) end
   pub all : length s ≤ end
 
 test-found : {A : Type 0} (t : Bool) (place : ℕ) (a b : A) (n m : ℕ) → cond t (offence BytesAfter place) (found a n) ≡ found b m → (t ≡ false) × (found a n ≡ found b m)
 test-found true place a b n m e = not-both _ e
 test-found false place a b n m e = (refl, e)
 
+moved : {s : List ℕ} {a b : Sheet} {n m : ℕ} → found a n ≡ found b m → Good s a n → Good s b m
+moved e g = rw (← found-value e, ← found-next e) g
+
 pub sheet-found : (s : List ℕ) (sheet : Sheet) (end : ℕ) → sheetIn s ≡ found sheet end → Good s sheet end
 unfolding sheetIn
 sheet-found s sheet end e =
-    let a = then-found (sectionAt seatsLeast seatsMost (moduleLine s) noModules s 0) _ sheet end e in
-    let b = then-found (sectionAt 0 marksMost (markLine (a .0 .count) s) noMarks s (a .1)) _ sheet end (a .3) in
-    let c = then-found (sectionAt 0 slotsMost (slotLine s) noSlots s (b .1)) _ sheet end (b .3) in
-    let t = test-found (ltb (c .1) (length s)) (c .1) (sheetFrom (a .0) (b .0) (c .0)) sheet (c .1) end (c .3) in
-    let n : c .1 ≡ end = found-next (t .1) in
-    record {
-      ring = a .0;
-      marks = b .0;
-      slots = c .0;
-      marksAt = a .1;
-      slotsAt = b .1;
-      whole = sym (found-value (t .1));
-      ring-is = section-found _ _ _ _ _ _ _ _ (a .2);
-      marks-is = section-found _ _ _ _ _ _ _ _ (b .2);
-      slots-is = section-found _ _ _ _ _ _ _ _ (c .2 ∙ ap (λ (m : ℕ). found (c .0) m) n);
-      all = omega (arith, ltb-false (c .1) (length s) (t .0));
-    }
+    let n = then-found (countAt seatsLeast seatsMost s 0) _ sheet end e in
+    let ring = then-found (entriesAt (moduleLine s) noModules (n .0) (n .1)) _ sheet end (n .3) in
+    let m = then-found (countAt 0 marksMost s (ring .1)) _ sheet end (ring .3) in
+    let marks = then-found (entriesAt (markLine (n .0) s) noMarks (m .0) (m .1)) _ sheet end (m .3) in
+    let h = then-found (countAt 0 slotsMost s (marks .1)) _ sheet end (marks .3) in
+    let slots = then-found (entriesAt (slotLine s) noSlots (h .0) (h .1)) _ sheet end (h .3) in
+    let whole = sheetFrom (n .0) (ring .0) (m .0) (marks .0) (h .0) (slots .0) in
+    let t = test-found (ltb (slots .1) (length s)) (slots .1) whole sheet (slots .1) end (slots .3) in
+    moved (t .1)
+    (record {
+      marksAt = ring .1;
+      slotsAt = marks .1;
+      ring-is = both-found _ _ _ _ _ _ _ _ _ _ (n .2) (ring .2);
+      marks-is = both-found _ _ _ _ _ _ _ _ _ _ (m .2) (marks .2);
+      slots-is = both-found _ _ _ _ _ _ _ _ _ _ (h .2) (slots .2);
+      all = ltb-false (slots .1) (length s) (t .0);
+    })
 
 -- ---- entries past a count
 

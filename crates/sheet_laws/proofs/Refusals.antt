@@ -1,34 +1,35 @@
--- The reader of sheets gives no refusal but 1 to 7. Assumes nothing.
-use mathlib.Core.Path.{_≡_, refl, ap}
+-- The reader of sheets gives no refusal but those of a sheet, 1 to 7. Assumes nothing.
+use mathlib.Core.Path.{_≡_, refl}
 use mathlib.Core.Bool.{Bool, true, false, cond}
 use mathlib.Core.List.{List}
 use mathlib.Core.Option.{Option, none, some}
-use Prim.Native.Nat.{ℕ, zero, suc, _+_, _*_, _-_, _≤_}
+use Prim.Native.Nat.{ℕ, zero, suc, _+_, _*_, _-_}
 use native.Mathlib.Omega.{arith}
 use lib.Dec.{ltb, eqb}
 use lib.ListN.{length, getD, set}
 use Rattle.limits.specs.Limits.{seatsLeast, seatsMost, marksMost, slotsMost, moduleMost}
-use Rattle.limits.specs.Refusals.{numberOf}
+use Rattle.limits.specs.Refusals.{ofSheet}
 use Rattle.limits.specs.declared.Refusal.{Refusal}
-use Rattle.limits.specs.declared.Refusal.the-variants.{EndsEarly, WrongByte, OutsideLimits, ModuleTwice, MarkNotAbove, WrongMark, BytesAfter}
+use Rattle.limits.specs.declared.Refusal.the-variants.{EndsEarly, WrongByte, OutsideLimits, ModuleTwice, BytesAfter}
 use Rattle.sheet_lines.specs.Found.{Found, found, offence, onFound, andThen}
 use Rattle.sheet_lines.specs.Bytes.{isDigit, isSpace, isLineFeed, isKind, isHeard, byteAt, digitsAt, numberAt}
 use Rattle.sheet_lines.specs.Lines.{endAt, ended, within, lineAt, spacedAt}
-use Rattle.sheet.specs.Sections.{linesAt, section, sectionAt, isNew, moduleLine, slotLine}
-use Rattle.sheet.specs.Marks.{mark, noMark, markWithin, ascends, allowed, markOffence, onOption, fieldsAt, markLine}
+use Rattle.sheet.specs.Entries.{linesAt, countAt, entriesAt, isNew, moduleLine, slotLine}
+use Rattle.sheet.specs.Marks.{mark, noMark, markOffence, onOption, fieldsAt, markLine}
 use Rattle.sheet.specs.Sheets.{noModules, noMarks, noSlots, sheetFrom, sheetIn}
 use Rattle.sheet.specs.declared.Mark.{Mark}
+use Rattle.sheet.proofs.MarkLaws.{mark-offence}
 
 -- ---- what is said of a reading
 
 abbrev Only : {A : Type 0} → Found A → Type 0
-Only f = (why : Refusal) (place : ℕ) → f ≡ offence why place → numberOf why ≤ 7
+Only f = (why : Refusal) (place : ℕ) → f ≡ offence why place → ofSheet why ≡ true
 
 only-found : {A : Type 0} (a : A) (n : ℕ) → Only (found a n)
 only-found a n why place e = let z : _≡_ {A = ℕ} 0 1 = cc in absurd (omega arith)
 
-only-offence : {A : Type 0} (why : Refusal) (place : ℕ) → numberOf why ≤ 7 → Only {A = A} (offence why place)
-only-offence why place l why′ place′ e = let q : why ≡ why′ = cc in let n = ap numberOf q in omega arith
+only-offence : {A : Type 0} (why : Refusal) (place : ℕ) → ofSheet why ≡ true → Only {A = A} (offence why place)
+only-offence why place l why′ place′ e = let q : why ≡ why′ = cc in rw (← q) l
 
 only-cond : {A : Type 0} (b : Bool) (f g : Found A) → Only f → Only g → Only (cond b f g)
 only-cond true f g x y = x
@@ -49,8 +50,8 @@ byte-only : (can : ℕ → Bool) (s : List ℕ) (at : ℕ) → Only (byteAt can 
 unfolding byteAt
 byte-only can s at =
     only-cond (ltb at (length s)) _ _
-    (only-cond (can (getD s at 0)) _ _ (only-found _ _) (only-offence WrongByte at (omega arith)))
-    (only-offence EndsEarly (length s) (omega arith))
+    (only-cond (can (getD s at 0)) _ _ (only-found _ _) (only-offence WrongByte at refl))
+    (only-offence EndsEarly (length s) refl)
 
 digits-only : (k value : ℕ) (s : List ℕ) (at : ℕ) → Only (digitsAt k value s at)
 unfolding digitsAt
@@ -78,13 +79,13 @@ line-only : (least most : ℕ) (s : List ℕ) (at : ℕ) → Only (lineAt least 
 unfolding lineAt
 line-only least most s at =
     only-then (ended s (numberAt s at)) _ (ended-only s (numberAt s at) (number-only s at))
-    (λ value next. only-cond (within least most value) _ _ (only-found value next) (only-offence OutsideLimits at (omega arith)))
+    (λ value next. only-cond (within least most value) _ _ (only-found value next) (only-offence OutsideLimits at refl))
 
 module-only : (s : List ℕ) (at k : ℕ) (modules : List ℕ) → Only (moduleLine s at k modules)
 unfolding moduleLine
 module-only s at k modules =
     only-then (lineAt 1 moduleMost s at) _ (line-only 1 moduleMost s at)
-    (λ number next. only-cond (isNew number k modules) _ _ (only-found (set modules k number) next) (only-offence ModuleTwice at (omega arith)))
+    (λ number next. only-cond (isNew number k modules) _ _ (only-found (set modules k number) next) (only-offence ModuleTwice at refl))
 
 slot-only : (s : List ℕ) (at k : ℕ) (slots : List ℕ) → Only (slotLine s at k slots)
 unfolding slotLine
@@ -104,17 +105,7 @@ fields-only s at =
     (λ seat at. only-then (ended s (byteAt isKind s at)) _ (ended-only s (byteAt isKind s at) (byte-only isKind s at))
     (λ kind next. only-found (mark time seat kind) next)))
 
-offence-only : (n k : ℕ) (last m : Mark) (why : Refusal) → markOffence n k last m ≡ some why → numberOf why ≤ 7
-unfolding markOffence
-offence-only n k last m why = go (markWithin n m) (ascends k last m) (allowed n m)
-  where
-    go : (a b c : Bool) → cond a (cond b (cond c none (some WrongMark)) (some MarkNotAbove)) (some OutsideLimits) ≡ some why → numberOf why ≤ 7
-    go true true true e = let z : _≡_ {A = ℕ} 0 1 = cc in absurd (omega arith)
-    go true true false e = let q : WrongMark ≡ why = cc in let n = ap numberOf q in omega arith
-    go true false c e = let q : MarkNotAbove ≡ why = cc in let n = ap numberOf q in omega arith
-    go false b c e = let q : OutsideLimits ≡ why = cc in let n = ap numberOf q in omega arith
-
-option-only : {A : Type 0} (o : Option Refusal) (f : Found A) (at : ℕ) → ((why : Refusal) → o ≡ some why → numberOf why ≤ 7) → Only f
+option-only : {A : Type 0} (o : Option Refusal) (f : Found A) (at : ℕ) → ((why : Refusal) → o ≡ some why → ofSheet why ≡ true) → Only f
     → Only (onOption o f (λ why. offence why at))
 option-only none f at x y = y
 option-only (some why) f at x y = only-offence why at (x why refl)
@@ -124,29 +115,25 @@ unfolding markLine
 mark-only n s at k marks =
     let last = getD marks (k - 1) noMark in
     only-then (fieldsAt s at) _ (fields-only s at)
-    (λ m next. option-only (markOffence n k last m) _ at (offence-only n k last m) (only-found (set marks k m) next))
+    (λ m next. option-only (markOffence n k last m) _ at (mark-offence ofSheet refl refl refl n k last m) (only-found (set marks k m) next))
 
--- ---- sections
+-- ---- so many lines
 
 lines-only : {S : Type 0} (line : ℕ → ℕ → S → Found S) → ((at k : ℕ) (e : S) → Only (line at k e)) → (more at k : ℕ) (e : S) → Only (linesAt line more at k e)
 unfolding linesAt
 lines-only line x zero at k e = only-found e at
 lines-only line x (suc more) at k e = only-then (line at k e) _ (x at k e) (λ entries next. lines-only line x more next (k + 1) entries)
 
-section-only : {A : Type 0} (least most : ℕ) (line : ℕ → ℕ → List A → Found (List A)) (empty : List A) (s : List ℕ) (at : ℕ)
-    → ((at k : ℕ) (e : List A) → Only (line at k e)) → Only (sectionAt least most line empty s at)
-unfolding sectionAt
-section-only least most line empty s at x =
-    only-then (lineAt least most s at) _ (line-only least most s at)
-    (λ count first. only-then (linesAt line count first 0 empty) _ (lines-only line x count first 0 empty) (λ entries next. only-found (section count entries) next))
-
 -- ---- the sheet
 
-pub reader-numbers : (bytes : List ℕ) (why : Refusal) (place : ℕ) → sheetIn bytes ≡ offence why place → numberOf why ≤ 7
+pub reader-refusals : (bytes : List ℕ) (why : Refusal) (place : ℕ) → sheetIn bytes ≡ offence why place → ofSheet why ≡ true
 unfolding sheetIn
-reader-numbers bytes =
-    only-then (sectionAt seatsLeast seatsMost (moduleLine bytes) noModules bytes 0) _ (section-only seatsLeast seatsMost (moduleLine bytes) noModules bytes 0 (module-only bytes))
-    (λ ring at. only-then (sectionAt 0 marksMost (markLine (ring .count) bytes) noMarks bytes at) _
-    (section-only 0 marksMost (markLine (ring .count) bytes) noMarks bytes at (mark-only (ring .count) bytes))
-    (λ marks at. only-then (sectionAt 0 slotsMost (slotLine bytes) noSlots bytes at) _ (section-only 0 slotsMost (slotLine bytes) noSlots bytes at (slot-only bytes))
-    (λ slots end. only-cond (ltb end (length bytes)) _ _ (only-offence BytesAfter end (omega arith)) (only-found (sheetFrom ring marks slots) end))))
+reader-refusals bytes =
+    only-then (countAt seatsLeast seatsMost bytes 0) _ (line-only seatsLeast seatsMost bytes 0)
+    (λ n at. only-then (entriesAt (moduleLine bytes) noModules n at) _ (lines-only (moduleLine bytes) (module-only bytes) n at 0 noModules)
+    (λ modules at. only-then (countAt 0 marksMost bytes at) _ (line-only 0 marksMost bytes at)
+    (λ markCount at. only-then (entriesAt (markLine n bytes) noMarks markCount at) _ (lines-only (markLine n bytes) (mark-only n bytes) markCount at 0 noMarks)
+    (λ marks at. only-then (countAt 0 slotsMost bytes at) _ (line-only 0 slotsMost bytes at)
+    (λ slotCount at. only-then (entriesAt (slotLine bytes) noSlots slotCount at) _ (lines-only (slotLine bytes) (slot-only bytes) slotCount at 0 noSlots)
+    (λ slots end.
+    only-cond (ltb end (length bytes)) _ _ (only-offence BytesAfter end refl) (only-found (sheetFrom n modules markCount marks slotCount slots) end)))))))

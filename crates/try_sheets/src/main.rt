@@ -4,7 +4,7 @@ ghost use Prim.Native.Nat.{_<_, _≤_};
 ghost use lib.ListN.{length};
 ghost use Rattle.io.specs.Counts.{Counts};
 use libc::STDOUT_FILENO;
-use sheet::Answer;
+use sheet::ReadAnswer;
 
 fn say(text: &[u8]) {
     io::write_all(STDOUT_FILENO, text);
@@ -20,13 +20,13 @@ fn report(name: &[u8], bytes: &[u8]) {
     let answer = reading.answer;
     say(name);
     match answer {
-        Answer::Read => {
+        ReadAnswer::Read => {
             say(b": read");
             say_number(reading.sheet.n);
             say_number(reading.sheet.mark_count);
             say_number(reading.sheet.slot_count);
         }
-        Answer::Refused(why, place) => {
+        ReadAnswer::Refused(why, place) => {
             say(b": refused");
             say_number(why.number() as usize);
             say_number(place);

@@ -2,8 +2,8 @@
 use borrow.Author.Needs.{needs}
 use Prim.Native.Nat.{_-_, _≤_}
 use lib.ListN.{length}
-use Rattle.sheet_runs.proofs.find.Statement.{statement}
-use Rattle.sheet_runs.proofs.find.Tie as tie
+use Rattle.try_sheets.proofs.find.Statement.{statement}
+use Rattle.try_sheets.proofs.find.Tie as tie
 
 abbrev Inv-loop : tie.InvT-loop
 Inv-loop file from byte at₀ at = (from ≤ at) × (at ≤ length file)

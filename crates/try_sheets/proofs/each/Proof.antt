@@ -2,8 +2,8 @@
 use borrow.Author.Needs.{needs}
 use Prim.Native.Nat.{_-_}
 use lib.ListN.{length}
-use Rattle.sheet_runs.proofs.each.Statement.{statement}
-use Rattle.sheet_runs.proofs.each.Tie as tie
+use Rattle.try_sheets.proofs.each.Statement.{statement}
+use Rattle.try_sheets.proofs.each.Tie as tie
 
 abbrev Inv-loop : tie.InvT-loop
 Inv-loop file at₀ at = Unit {0}
