@@ -171,7 +171,7 @@ through-spec =
     element-copy-out-spoken-2
     (λ c κs. search needs) (λ c. search needs) (λ c. search needs) (λ c κs. search needs) same-length
     returns
-    (λ c κs. search needs) (λ c. search needs) (λ c. search needs) (λ c κs. search needs) same-length-2
+    (λ c κs. search needs) (λ c. search needs) (λ c κs. search needs) same-length-2
     returns-2
     (λ c. search needs) (λ c κs. search needs) add-at
     loop-less-2
