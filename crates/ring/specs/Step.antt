@@ -1,15 +1,15 @@
 -- One step: its slot, the turn of each seat, and the ring and the trail after it.
 use mathlib.Core.Bool.{Bool}
 use mathlib.Core.List.{List}
-use Prim.Native.Nat.{ℕ, _+_, _*_}
+use Prim.Native.Nat.{ℕ, _+_}
 use lib.ListN.{length}
 use Rattle.lists.specs.Counted.{joined, sum}
-use Rattle.lists.specs.Put.{put}
 use Rattle.turn.specs.Table.{Gone, goneBy}
 use Rattle.turn.specs.Turn.{spokenBy, turnOf}
 use Rattle.turn.specs.declared.Slot.{Slot}
 use Rattle.turn.specs.declared.Turn.{Turn}
-use Rattle.trail.specs.Trail.{width, recordsOf}
+use Rattle.trail.specs.Trail.{recordsOf, written}
+use Rattle.trail.specs.declared.Record.{Record}
 use Rattle.ring.specs.Ring.{seatOf, ownerOf, drawnTo, withCounts}
 use Rattle.ring.specs.declared.Ring.{Ring}
 
@@ -51,9 +51,9 @@ ringAfter r c = withCounts (drawnTo (r .n) r (λ p. turnAt r c p .seat)) (r .n) 
 
 -- ---- the trail
 
-abbrev pub recordsAt : Ring → Slot → ℕ → List ℕ
+abbrev pub recordsAt : Ring → Slot → ℕ → List Record
 recordsAt r c p = recordsOf (r .time) p (goneAt r c p)
 
 -- the records of the step, by holder, after those already written; no other byte is touched
 abbrev pub trailAfter : Ring → Slot → List ℕ → List ℕ
-trailAfter r c trail = put trail (width * r .records) (joined (r .n) (recordsAt r c))
+trailAfter r c trail = written trail (r .records) (joined (r .n) (recordsAt r c))

@@ -32,7 +32,7 @@ module _ (r : Ring) (c : Slot) where
 
 -- the trail keeps its length where they fit
 pub length-after : (r : Ring) (c : Slot) (t : List ℕ) → width * (r .records + countIn r c) ≤ length t → length (trailAfter r c t) ≡ length t
-length-after r c t l = length-written r c t (width * r .records) (omega arith) (r .n) (le-refl (r .n))
+length-after r c t l = length-written r c t (r .records) l (r .n) (le-refl (r .n))
 
 -- ---- a ring leads to a ring
 

@@ -1,7 +1,7 @@
 -- `step`: the checks in their order; then the ring drawn, the room tested and the records written. Assumes nothing.
 use borrow.Author.Needs.{needs}
 use mathlib.Core.Path.{_≡_, refl, sym, ap, _∙_}
-use Prim.Native.Nat.{_+_, _*_, _%_, _<_}
+use Prim.Native.Nat.{_+_, _%_, _<_}
 use native.Mathlib.Omega.{arith}
 use mathlib.Core.Bool.{true, false}
 use lib.ListN.{length}
@@ -11,7 +11,7 @@ use Rattle.limits.specs.Refusals.{numberOf, done, refused}
 use Rattle.limits.specs.declared.Refusal.the-variants.{WrongMark, NoRoom, AtTheEnd, NotARing}
 use Rattle.turn.specs.declared.Slot.{Slot}
 use Rattle.turn.specs.declared.Spoken.{Spoken}
-use Rattle.trail.specs.Trail.{width, roomFor}
+use Rattle.trail.specs.Trail.{roomFor}
 use Rattle.ring.specs.Ring.{isRing, withCounts}
 use Rattle.ring.specs.Step.{slotOf, countIn, trailAfter}
 use Rattle.ring.specs.Refusals.{marksStand, stepTold}
@@ -157,7 +157,7 @@ returns-5 c = let f = c .before .before .before .before in
     rw (c .taken .ensures)
     (take (a .self) (a .send) (a .receive) (a .trail .now) Taken refl (stands f)
     (ap (λ (x : Drawn). withCounts (x .ring) (x .ring .n) (a .self .time + 1) (a .self .records + x .count)) (drawn d))
-    (sym (write-none (a .self) (slotIn s) (a .trail .now) (width * a .self .records) (sym (drawn-count d) ∙ c .before .if5 .taken))))
+    (sym (write-none (a .self) (slotIn s) (a .trail .now) (a .self .records) (sym (drawn-count d) ∙ c .before .if5 .taken))))
 
 write-requires : tie.Need-write-requires
 write-requires c κs = let f = c .before .before .before .before in
