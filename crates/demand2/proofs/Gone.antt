@@ -22,7 +22,7 @@ use Rattle.turn.specs.declared.Removal.the-variants.{Nobody, Itself, Owner, Bot
 use Rattle.turn.proofs.TurnLaws.{turn-elim}
 use Rattle.demand2.specs.Records.{tellsOf}
 use Rattle.demand2.specs.Story.{left}
-use Rattle.demand2.proofs.Entries.{entryOf, entriesOf}
+use Rattle.trail.specs.Trail.{recordOf, recordsOf}
 use Rattle.demand2.proofs.Tally.{one, tally}
 
 -- ---- how many it takes
@@ -83,10 +83,10 @@ left-step set mid after q f g = go (hasSeat set q) (hasSeat mid q) (hasSeat afte
 
 -- each seat that leaves is told of once, and no other is
 module _ (time set p b q : ℕ) (apart : p ≡ b → ⊥) (hp : hasSeat set p ≡ true) (hb : hasSeat set b ≡ true) where
-  told-one : (j : ℕ) → one (tellsOf p q (entryOf time p (gone j A))) ≡ one (eqb j q)
+  told-one : (j : ℕ) → one (tellsOf p q (recordOf time p (gone j A))) ≡ one (eqb j q)
   told-one j = ap (λ (x : Bool). one (x && eqb j q)) (eq-eqb p p refl)
 
-  gone-left : (k : Removal) → tally (tellsOf p q) (entriesOf time p (goneBy p b k)) ≡ one (left set (withoutAll set (goneBy p b k)) q)
+  gone-left : (k : Removal) → tally (tellsOf p q) (recordsOf time p (goneBy p b k)) ≡ one (left set (withoutAll set (goneBy p b k)) q)
   gone-left Nobody = sym (ap one (left-same set q))
   gone-left (Itself c) = zero-add _ ∙ told-one p ∙ sym (ap one (left-one set p q hp))
   gone-left (Owner c) = zero-add _ ∙ told-one b ∙ sym (ap one (left-one set b q hb))
@@ -100,9 +100,9 @@ module _ (time set p b q : ℕ) (apart : p ≡ b → ⊥) (hp : hasSeat set p �
       omega arith
 
 pub turn-left : (time : ℕ) (c : Slot) (p q : ℕ) (s : Seat)
-    → tally (tellsOf p q) (entriesOf time p (goneBy p (c .owner) (turnOf c p s .removal))) ≡ one (left (s .set) (turnOf c p s .seat .set) q)
+    → tally (tellsOf p q) (recordsOf time p (goneBy p (c .owner) (turnOf c p s .removal))) ≡ one (left (s .set) (turnOf c p s .seat .set) q)
 turn-left time c p q s =
-    turn-elim c p s (λ t. tally (tellsOf p q) (entriesOf time p (goneBy p (c .owner) (t .removal))) ≡ one (left (s .set) (t .seat .set) q))
+    turn-elim c p s (λ t. tally (tellsOf p q) (recordsOf time p (goneBy p (c .owner) (t .removal))) ≡ one (left (s .set) (t .seat .set) q))
     (λ h. sym (ap one (left-same (s .set) q)))
     (λ h e. sym (ap one (left-same (s .set) q)))
     (λ h n g. gone-left time (s .set) p (c .owner) q n h g (decided (viewOf c p) (s .ack) (s .doubt) .removal))

@@ -10,13 +10,19 @@ use Rattle.ring.specs.Step.{slotOf}
 use Rattle.ring.specs.declared.Ring.{Ring}
 use Rattle.turn.specs.declared.Seat.{Seat}
 use Rattle.turn.specs.declared.Slot.{Slot}
+use Rattle.turn.specs.declared.Spoken.{Spoken}
+use Rattle.turn.specs.declared.Spoken.the-variants.{Nothing, Bit}
 use Rattle.turn.specs.declared.Turn.{Turn}
 use Rattle.turn.proofs.TurnLaws.{turn-out, turn-owner, turn-other, turn-still, turn-elim}
-use Rattle.demand2.specs.Marks.{sendHolds, receiveHolds, unmarked, IdleSend, IdleReceive, OwnReceive}
+use Rattle.demand2.specs.Marks.{speaks, sendHolds, receiveHolds, unmarked, IdleSend, IdleReceive, OwnReceive}
 
 -- a seat that expects the owner hears nothing where the owner is silent, marked or not
-silent-same : (c : Slot) (p q : ℕ) (s : Seat) → c .speaks ≡ false → otherTurn (unmarked c q) p s ≡ otherTurn c p s
-silent-same c p q s e = rw e
+silent-same : (c : Slot) (p q : ℕ) (s : Seat) → speaks (c .spoken) ≡ false → otherTurn (unmarked c q) p s ≡ otherTurn c p s
+silent-same c p q s e = rw (nothing (c .spoken) e)
+  where
+    nothing : (x : Spoken) → speaks x ≡ false → x ≡ Nothing
+    nothing Nothing e = refl
+    nothing (Bit bit) e = absurd (true≢false e)
 
 holds-not : (a b c : Bool) → a ≡ true → b ≡ true → (not (not a) && b && c) ≡ false → c ≡ false
 holds-not true true c x y e = e
@@ -29,7 +35,7 @@ idle-receive c p s e =
     turn-elim c p s (λ (t : Turn). turnOf d p s ≡ t)
     (λ h. turn-out d p s h)
     (λ h q. turn-owner d p s h q)
-    (λ h n g. turn-other d p s h n g ∙ silent-same c p p s (holds-not (hasSeat (s .set) p) (hasSeat (s .set) (c .owner)) (c .speaks) h g e))
+    (λ h n g. turn-other d p s h n g ∙ silent-same c p p s (holds-not (hasSeat (s .set) p) (hasSeat (s .set) (c .owner)) (speaks (c .spoken)) h g e))
     (λ h n g. turn-still d p s h n g)
 
 pub own-receive : OwnReceive

@@ -27,13 +27,13 @@ use Rattle.turn.specs.declared.Seat.{Seat}
 use Rattle.turn.specs.declared.Turn.{Turn}
 use Rattle.steps.specs.Run.{Marks, quiet, missedBy, Bench, toldOn, stepOn, freshBench, Reached, start, taken}
 use Rattle.turn.proofs.GoneLaws.{takesItself, takesOwner, gone-has}
-use Rattle.steps.proofs.Seen.{speaks-is, view-table}
+use Rattle.steps.proofs.Seen.{view-table}
 use Rattle.turn.proofs.TurnLaws.{turn-elim, turn-out}
 use Rattle.steps.proofs.Taken.{taken-ring}
 use Rattle.steps.proofs.After.{seat-after, seat-beyond}
 use Rattle.steps.proofs.Reached.{fresh-seat, step-after, reached-stands}
 use Rattle.demand2.specs.Story.{rowOf}
-use Rattle.demand2.specs.Paper.{broadcaster, membership, ack, expects, arrived, Knows, caseC, caseD, Does, does, knowsIn, Updated, received, updated, history, sentFalse}
+use Rattle.demand2.specs.Paper.{broadcasts, broadcaster, membership, ack, expects, arrived, Knows, caseC, caseD, Does, does, knowsIn, Updated, received, updated, history, sentFalse}
 
 -- ---- what is said
 
@@ -103,8 +103,8 @@ module _ (r : Ring) (m : Marks) (d : Bool) (p : ℕ) where
 
   -- the broadcast arrives as the engine's seat sees it
   arrived-is : membership r p (broadcaster r) ≡ true
-      → (slotOf r (m .send) (m .receive) .speaks && not (hasSeat (m .receive) p)) ≡ arrived r m p
-  arrived-is h = ap (λ (x : Bool). x && not (hasSeat (m .receive) p)) (speaks-is r (m .send) (m .receive)) ∙ rw h
+      → (broadcasts r m && not (hasSeat (m .receive) p)) ≡ arrived r m p
+  arrived-is h = rw h
 
 module _ (r : Ring) (m : Marks) (p : ℕ) where
   -- the row of a seat that expects the owner does what the paper says
@@ -115,7 +115,7 @@ module _ (r : Ring) (m : Marks) (p : ℕ) where
       let c = slotOf r (m .send) (m .receive) in
       let b = broadcaster r in
       ap rowDoes
-      (view-table (c .speaks) (hasSeat (m .receive) p) (c .bit) (ack r p) (seatOf r p .doubt)
+      (view-table (broadcasts r m) (hasSeat (m .receive) p) (ack r b) (ack r p) (seatOf r p .doubt)
       ∙ ap (λ (x : Bool). table x (ack r b) (ack r p) (seatOf r p .doubt)) (arrived-is r m (seatOf r p .doubt) p g))
       ∙ table-does (arrived r m p) (ack r b) (ack r p) (seatOf r p .doubt)
 

@@ -24,9 +24,12 @@ use Rattle.ring.specs.declared.StepAnswer.the-variants.{Taken}
 use Rattle.steps.proofs.Taken.{told-taken, taken-ring, taken-trail}
 use Rattle.trail.proofs.RecordLaws.{room-bytes}
 use Rattle.steps.proofs.After.{seat-after, seat-beyond, length-after}
-use Rattle.demand2.specs.Records.{Entry, entryAt, passing, tellsOf}
+use Rattle.trail.specs.Trail.{recordAt}
+use Rattle.trail.specs.declared.Record.{Record}
+use Rattle.demand2.specs.Records.{passing, tellsOf}
 use Rattle.demand2.specs.Story.{left, Says, Before, OneStory}
-use Rattle.demand2.proofs.Entries.{noEntry, entriesIn, entries-count, entry-within, byte-outside}
+use Rattle.trail.specs.Trail.{noRecord}
+use Rattle.demand2.proofs.Entries.{recordsIn, records-count, record-within, byte-outside}
 use Rattle.demand2.proofs.Tally.{one, tally, tally-holder, tally-nobody, passing-step}
 use Rattle.demand2.proofs.Gone.{left-same, turn-left}
 use Rattle.demand2.proofs.Standing.{says-step, ordered-step}
@@ -41,16 +44,16 @@ OneStoryEach = (r : Ring) (send : Bool) (receive : ℕ) (t : List ℕ) (s : Step
 -- ---- the records that tell of one holder and one removed seat
 
 module _ (r : Ring) (c : Slot) (p q : ℕ) where
-  alone : (e : Entry) → (e .holder ≡ p → ⊥) → tellsOf p q e ≡ false
+  alone : (e : Record) → (e .holder ≡ p → ⊥) → tellsOf p q e ≡ false
   alone e n = rw (ne-eqb (e .holder) p n)
 
-  step-tally : tally (tellsOf p q) (entriesIn r c) ≡ one (left (seatOf r p .set) (seatOf (ringAfter r c) p .set) q)
+  step-tally : tally (tellsOf p q) (recordsIn r c) ≡ one (left (seatOf r p .set) (seatOf (ringAfter r c) p .set) q)
   step-tally =
       ⊎-elim
       (λ t.
       let l = ltb-true p (r .n) t in
       tally-holder r c (tellsOf p q) p alone l
-      ∙ turn-left (c .time) c p q (seatOf r p)
+      ∙ turn-left (r .time) c p q (seatOf r p)
       ∙ sym (ap (λ (s : Seat). one (left (seatOf r p .set) (s .set) q)) (seat-after r c p l)))
       (λ f.
       let l = ltb-false p (r .n) f in
@@ -63,26 +66,26 @@ module _ (r : Ring) (c : Slot) (p q : ℕ) where
 
 module _ (r : Ring) (c : Slot) (t : List ℕ) (fits : width * (r .records + countIn r c) ≤ length t) where
   -- record i of the step
-  at-entry : (i : ℕ) → r .records ≤ i → i < r .records + countIn r c → getD (entriesIn r c) (i - r .records) noEntry ≡ entryAt (trailAfter r c t) i
-  at-entry i l h =
+  at-record : (i : ℕ) → r .records ≤ i → i < r .records + countIn r c → getD (recordsIn r c) (i - r .records) noRecord ≡ recordAt (trailAfter r c t) i
+  at-record i l h =
       let q : r .records + (i - r .records) ≡ i = omega arith in
-      sym (entry-within r c t fits (i - r .records) (omega arith)) ∙ ap (entryAt (trailAfter r c t)) q
+      sym (record-within r c t fits (i - r .records) (omega arith)) ∙ ap (recordAt (trailAfter r c t)) q
 
   pub story-after : OneStory r c t (ringAfter r c) (trailAfter r c t)
   story-after =
-      let m = entries-count r c in
+      let m = records-count r c in
       record {
         counted = λ p q.
             let k : r .records + countIn r c - r .records ≡ countIn r c = omega arith in
             ap (λ (x : ℕ). passing (tellsOf p q) (r .records) x (trailAfter r c t)) k
             ∙ passing-step (tellsOf p q) r c t fits
             ∙ step-tally r c p q;
-        says = λ i l h. subst (Says r c) (at-entry i l h) (says-step r c (i - r .records) (omega arith));
+        says = λ i l h. subst (Says r c) (at-record i l h) (says-step r c (i - r .records) (omega arith));
         order = λ i j l k h.
-            let a = at-entry i l (omega arith) in
-            let b = at-entry j (omega arith) h in
+            let a = at-record i l (omega arith) in
+            let b = at-record j (omega arith) h in
             let o = ordered-step r c (i - r .records) (j - r .records) (omega arith) (omega arith) in
-            subst (λ (e : Entry). Before e (entryAt (trailAfter r c t) j)) a (subst (λ (e : Entry). Before (getD (entriesIn r c) (i - r .records) noEntry) e) b o);
+            subst (λ (e : Record). Before e (recordAt (trailAfter r c t) j)) a (subst (λ (e : Record). Before (getD (recordsIn r c) (i - r .records) noRecord) e) b o);
         outside = λ j h. byte-outside r c t fits j h;
         size = length-after r c t fits;
       }

@@ -74,7 +74,7 @@ module _ (r : Ring) (c : Slot) (most : r .n ≤ 32) (owner : c .owner < 32) wher
         let b = passing-before (heldBy p) r c t fits in
         let d = passing-step (heldBy p) r c t fits in
         let e = tally-holder r c (heldBy p) p (λ x n. ne-eqb (x .holder) p n) l in
-        let f = tally-all (heldBy p) (c .time) p (λ g. eq-eqb p p refl) (goneAt r c p) in
+        let f = tally-all (heldBy p) (r .time) p (λ g. eq-eqb p p refl) (goneAt r c p) in
         omega arith
 
 step-sum : (n bytes : ℕ) (m : Marks) (b : Bench) → Stands n bytes b → toldOn m b ≡ done → SumIsN n b → SumIsN n (benchAfter m b)

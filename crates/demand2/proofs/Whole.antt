@@ -24,9 +24,11 @@ use Rattle.steps.proofs.Taken.{told-taken}
 use Rattle.trail.proofs.RecordLaws.{room-bytes}
 use Rattle.steps.proofs.After.{seat-after}
 use Rattle.steps.proofs.Reached.{Stands, fresh-records, fresh-seat, benchAfter, reached-elim, run-reached}
-use Rattle.demand2.specs.Records.{Entry, entryAt, passing, tellsOf}
+use Rattle.trail.specs.Trail.{recordAt}
+use Rattle.trail.specs.declared.Record.{Record}
+use Rattle.demand2.specs.Records.{passing, tellsOf}
 use Rattle.demand2.specs.Story.{Before, OneStory, WholeStory}
-use Rattle.demand2.proofs.Entries.{entry-before}
+use Rattle.demand2.proofs.Entries.{record-before}
 use Rattle.demand2.proofs.Tally.{one, passing-split, passing-before}
 use Rattle.demand2.proofs.Gone.{turn-within}
 use Rattle.demand2.proofs.Story.{story-after}
@@ -46,7 +48,7 @@ once false true h = absurd (false≢true (h refl))
 once false false h = refl
 
 -- two records of the trail, one before the other
-abbrev Earlier : Entry → Entry → Type 0
+abbrev Earlier : Record → Record → Type 0
 Earlier e f = (e .time < f .time) ⊎ ((e .time ≡ f .time) × Before e f)
 
 module _ (r : Ring) (c : Slot) (t : List ℕ) (fits : width * (r .records + countIn r c) ≤ length t) where
@@ -66,27 +68,27 @@ module _ (r : Ring) (c : Slot) (t : List ℕ) (fits : width * (r .records + coun
       let o = once (hasSeat (seatOf r p .set) q) (hasSeat (seatOf (ringAfter r c) p .set) q) w in
       omega arith
 
-  module _ (now : c .time ≡ r .time) (past : (i : ℕ) → i < r .records → entryAt t i .time < r .time) where
-    old-time : (i : ℕ) → i < r .records → entryAt (trailAfter r c t) i .time < r .time
-    old-time i l = let a = past i l in let b = ap (λ (e : Entry). e .time) (entry-before r c t fits i l) in omega arith
+  module _ (past : (i : ℕ) → i < r .records → recordAt t i .time < r .time) where
+    old-time : (i : ℕ) → i < r .records → recordAt (trailAfter r c t) i .time < r .time
+    old-time i l = let a = past i l in let b = ap (λ (e : Record). e .time) (record-before r c t fits i l) in omega arith
 
-    new-time : (i : ℕ) → r .records ≤ i → i < r .records + countIn r c → entryAt (trailAfter r c t) i .time ≡ r .time
-    new-time i l h = story .says i l h .time ∙ now
+    new-time : (i : ℕ) → r .records ≤ i → i < r .records + countIn r c → recordAt (trailAfter r c t) i .time ≡ r .time
+    new-time i l h = story .says i l h .time
 
-    past-after : (i : ℕ) → i < r .records + countIn r c → entryAt (trailAfter r c t) i .time < r .time + 1
+    past-after : (i : ℕ) → i < r .records + countIn r c → recordAt (trailAfter r c t) i .time < r .time + 1
     past-after i l =
         ⊎-elim
         (λ u. let a = old-time i (ltb-true i (r .records) u) in omega arith)
         (λ u. let a = new-time i (ltb-false i (r .records) u) l in omega arith)
         (both (ltb i (r .records)))
 
-    order-after : ((i j : ℕ) → i < j → j < r .records → Earlier (entryAt t i) (entryAt t j))
-        → (i j : ℕ) → i < j → j < r .records + countIn r c → Earlier (entryAt (trailAfter r c t) i) (entryAt (trailAfter r c t) j)
+    order-after : ((i j : ℕ) → i < j → j < r .records → Earlier (recordAt t i) (recordAt t j))
+        → (i j : ℕ) → i < j → j < r .records + countIn r c → Earlier (recordAt (trailAfter r c t) i) (recordAt (trailAfter r c t) j)
     order-after old i j l h =
         ⊎-elim
         (λ u.
         let k = ltb-true j (r .records) u in
-        subst₂ Earlier (sym (entry-before r c t fits i (omega arith))) (sym (entry-before r c t fits j k)) (old i j l k))
+        subst₂ Earlier (sym (record-before r c t fits i (omega arith))) (sym (record-before r c t fits j k)) (old i j l k))
         (λ u.
         let k = ltb-false j (r .records) u in
         let y = new-time j k h in
@@ -106,8 +108,8 @@ step-whole n bytes m b s e h =
     let z = s .seats in
     record {
       rebuilt = λ p q l i. rebuilt-after (b .ring) c (b .trail) fits p q (omega arith) (h .rebuilt p q l i);
-      past = past-after (b .ring) c (b .trail) fits refl (h .past);
-      order = order-after (b .ring) c (b .trail) fits refl (h .past) (h .order);
+      past = past-after (b .ring) c (b .trail) fits (h .past);
+      order = order-after (b .ring) c (b .trail) fits (h .past) (h .order);
     }
 
 -- ---- a run

@@ -10,18 +10,25 @@ use Rattle.ring.specs.Step.{slotOf, turnAt}
 use Rattle.ring.specs.declared.Ring.{Ring}
 use Rattle.turn.specs.declared.Seat.{Seat}
 use Rattle.turn.specs.declared.Slot.{Slot}
+use Rattle.turn.specs.declared.Spoken.{Spoken}
+use Rattle.turn.specs.declared.Spoken.the-variants.{Nothing, Bit}
 
 -- a send mark takes hold if the owner is in its own set
 abbrev pub sendHolds : Ring → Bool
 sendHolds r = not (out (ownerOf r) (seatOf r (ownerOf r)))
 
+-- the owner speaks
+abbrev pub speaks : Spoken → Bool
+speaks Nothing = false
+speaks (Bit bit) = true
+
 -- a receive mark takes hold if its seat is not out, the owner is in that seat's set, and the owner speaks
 abbrev pub receiveHolds : Slot → ℕ → Seat → Bool
-receiveHolds c p s = not (out p s) && hasSeat (s .set) (c .owner) && c .speaks
+receiveHolds c p s = not (out p s) && hasSeat (s .set) (c .owner) && speaks (c .spoken)
 
 -- the slot without the receive mark of seat q
 abbrev pub unmarked : Slot → ℕ → Slot
-unmarked c q = record { owner = c .owner; speaks = c .speaks; bit = c .bit; send = c .send; receive = withoutSeat (c .receive) q; time = c .time }
+unmarked c q = record { owner = c .owner; spoken = c .spoken; send = c .send; receive = withoutSeat (c .receive) q; since = c .since }
 
 -- a send mark that does not take hold: every seat's turn is the same without it
 abbrev pub IdleSend : Type 0

@@ -18,7 +18,9 @@ use Rattle.turn.specs.declared.Cause.the-variants.{A, C}
 use Rattle.turn.specs.declared.Removal.{Removal}
 use Rattle.turn.specs.declared.Removal.the-variants.{Itself, Owner, Both}
 use Rattle.steps.specs.Run.{Bench}
-use Rattle.demand2.specs.Records.{Entry, entryAt, passing, tellsOf}
+use Rattle.trail.specs.Trail.{recordAt}
+use Rattle.trail.specs.declared.Record.{Record}
+use Rattle.demand2.specs.Records.{passing, tellsOf}
 
 -- q was in the set and is not any more
 abbrev pub left : ℕ → ℕ → ℕ → Bool
@@ -37,8 +39,8 @@ pub data Gives (p b : ℕ) : Removal → (removed letter : ℕ) → Type 0 where
 
 -- a record of the step: its time is the step's; its holder is a seat that is not out, is not the owner, and has the owner in its set; the
 -- seat removed and the cause are those of the table's row for the holder
-pub record Says (r : Ring) (c : Slot) (e : Entry) : Type 0 where
-  pub time : e .time ≡ c .time
+pub record Says (r : Ring) (c : Slot) (e : Record) : Type 0 where
+  pub time : e .time ≡ r .time
   pub holder : e .holder < r .n
   pub member : hasSeat (seatOf r (e .holder) .set) (e .holder) ≡ true
   pub other : e .holder ≡ c .owner → ⊥
@@ -46,7 +48,7 @@ pub record Says (r : Ring) (c : Slot) (e : Entry) : Type 0 where
   pub cause : Gives (e .holder) (c .owner) (rowOf r c (e .holder) .removed) (e .removed) (e .cause)
 
 -- one record stands before another of the same step: by holder, and cause a before cause c
-abbrev pub Before : Entry → Entry → Type 0
+abbrev pub Before : Record → Record → Type 0
 Before e f = (e .holder < f .holder) ⊎ ((e .holder ≡ f .holder) × (e .cause ≡ letterOf A) × (f .cause ≡ letterOf C))
 
 -- the step from the ring r and the trail t, in the slot c, to the ring r′ and the trail t′
@@ -54,9 +56,9 @@ pub record OneStory (r : Ring) (c : Slot) (t : List ℕ) (r′ : Ring) (t′ : L
   -- q was in p's set and is not any more, where exactly one record of the step has that holder and removed seat; else none has
   pub counted : (p q : ℕ) → passing (tellsOf p q) (r .records) (r′ .records - r .records) t′ ≡ cond (left (seatOf r p .set) (seatOf r′ p .set) q) 1 0
   -- what each record of the step says
-  pub says : (i : ℕ) → r .records ≤ i → i < r′ .records → Says r c (entryAt t′ i)
+  pub says : (i : ℕ) → r .records ≤ i → i < r′ .records → Says r c (recordAt t′ i)
   -- and how they stand
-  pub order : (i j : ℕ) → r .records ≤ i → i < j → j < r′ .records → Before (entryAt t′ i) (entryAt t′ j)
+  pub order : (i j : ℕ) → r .records ≤ i → i < j → j < r′ .records → Before (recordAt t′ i) (recordAt t′ j)
   -- every byte of the trail outside them is as it was
   pub outside : (j : ℕ) → (j < width * r .records) ⊎ (width * r′ .records ≤ j) → getD t′ j 0 ≡ getD t j 0
   pub size : length t′ ≡ length t
@@ -67,8 +69,8 @@ pub record WholeStory (n : ℕ) (b : Bench) : Type 0 where
   pub rebuilt : (p q : ℕ) → p < n → q < n
       → passing (tellsOf p q) 0 (b .ring .records) (b .trail) ≡ cond (hasSeat (seatOf (b .ring) p .set) q) 0 1
   -- the records are of steps taken
-  pub past : (i : ℕ) → i < b .ring .records → entryAt (b .trail) i .time < b .ring .time
+  pub past : (i : ℕ) → i < b .ring .records → recordAt (b .trail) i .time < b .ring .time
   -- and stand by time, then holder, and cause a before cause c
   pub order : (i j : ℕ) → i < j → j < b .ring .records
-      → (entryAt (b .trail) i .time < entryAt (b .trail) j .time)
-      ⊎ ((entryAt (b .trail) i .time ≡ entryAt (b .trail) j .time) × Before (entryAt (b .trail) i) (entryAt (b .trail) j))
+      → (recordAt (b .trail) i .time < recordAt (b .trail) j .time)
+      ⊎ ((recordAt (b .trail) i .time ≡ recordAt (b .trail) j .time) × Before (recordAt (b .trail) i) (recordAt (b .trail) j))
