@@ -22,7 +22,7 @@ use Rattle.ring.specs.declared.StepAnswer.the-variants.{Taken, Refused}
 use Rattle.turn.specs.declared.Seat.{Seat}
 use Rattle.steps.specs.Run.{Marks, quiet, sendFault, Bench, toldOn, stepOn, freshBench, Reached, start, taken}
 use Rattle.steps.proofs.Taken.{not-done}
-use Rattle.demand2.specs.Empty.{Program, given, on, Keeps, RefusesAll, refuser, Constant, constantly, StandsStill, sleeper, FirstOnly, firstTimer, Invents, inventor}
+use Rattle.demand2.specs.Empty.{Program, made, on, Keeps, RefusesAll, refuser, Constant, constantly, StandsStill, sleeper, FirstOnly, firstTimer, Invents, inventor}
 use Rattle.demand2.specs.Refused.{Answered, not-a-ring, wrong-mark, at-the-end, no-room}
 use Rattle.demand2.specs.Refused as row
 use Rattle.demand2.proofs.Refused.{answers}
@@ -171,7 +171,7 @@ answer-told r send receive bytes a (no-room v w l k) = refl
 answer-told r send receive bytes a (row.taken v w l k) = refl
 
 keeper : Program
-keeper r send receive t = given (answerOf (stepTold r send receive (length t))) (ringOf r send receive t) (trailOf r send receive t)
+keeper r send receive t = made (answerOf (stepTold r send receive (length t))) (ringOf r send receive t) (trailOf r send receive t)
 
 keeper-keeps : Keeps keeper
 unfolding keeper

@@ -3,7 +3,9 @@ use mathlib.Core.Bool.{Bool, true}
 use mathlib.Core.Path.{_≡_}
 use mathlib.Core.Logic.{_⊎_}
 use Prim.Native.Nat.{ℕ, _+_, _≤_, _<_}
-use Rattle.limits.specs.Refusals.{Told, done, refused}
+use Rattle.limits.specs.Limits.{slotsMost}
+use Rattle.limits.specs.Refusals.{numberOf, Told, done, refused}
+use Rattle.limits.specs.declared.Refusal.the-variants as reasons
 use Rattle.seats.specs.Sets.{hasSeat}
 use Rattle.ring.specs.Ring.{ownerOf}
 use Rattle.ring.specs.Step.{slotOf, countIn}
@@ -21,10 +23,10 @@ NoRoom r send receive bytes = roomFor bytes < r .records + countIn r (slotOf r s
 
 -- a step with a trail of so many bytes is answered so. Checked in the order 10, 6, 9, 8
 pub data Answered (r : Ring) (send : Bool) (receive bytes : ℕ) : Told → Type 0 where
-  not-a-ring : (Valid r (roomFor bytes) → ⊥) → Answered r send receive bytes (refused 10 0)
-  wrong-mark : Valid r (roomFor bytes) → WrongMark r receive → Answered r send receive bytes (refused 6 (r .time))
-  at-the-end : Valid r (roomFor bytes) → (WrongMark r receive → ⊥) → r .time ≡ 4096 → Answered r send receive bytes (refused 9 4096)
-  no-room : Valid r (roomFor bytes) → (WrongMark r receive → ⊥) → r .time < 4096 → NoRoom r send receive bytes
-      → Answered r send receive bytes (refused 8 (r .time))
-  taken : Valid r (roomFor bytes) → (WrongMark r receive → ⊥) → r .time < 4096 → (NoRoom r send receive bytes → ⊥)
+  not-a-ring : (Valid r (roomFor bytes) → ⊥) → Answered r send receive bytes (refused (numberOf reasons.NotARing) 0)
+  wrong-mark : Valid r (roomFor bytes) → WrongMark r receive → Answered r send receive bytes (refused (numberOf reasons.WrongMark) (r .time))
+  at-the-end : Valid r (roomFor bytes) → (WrongMark r receive → ⊥) → r .time ≡ slotsMost → Answered r send receive bytes (refused (numberOf reasons.AtTheEnd) slotsMost)
+  no-room : Valid r (roomFor bytes) → (WrongMark r receive → ⊥) → r .time < slotsMost → NoRoom r send receive bytes
+      → Answered r send receive bytes (refused (numberOf reasons.NoRoom) (r .time))
+  taken : Valid r (roomFor bytes) → (WrongMark r receive → ⊥) → r .time < slotsMost → (NoRoom r send receive bytes → ⊥)
       → Answered r send receive bytes done

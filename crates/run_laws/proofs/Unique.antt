@@ -11,8 +11,8 @@ use Rattle.run.specs.Outcome.{heard, ran, refused, said}
 use Rattle.run.specs.Run.{runOf, RunPromise}
 use Rattle.run.specs.declared.Bus.{Bus}
 use Rattle.run.specs.declared.Bus.the-variants.{Agrees, Differs}
-use Rattle.run.specs.declared.Answer.{Answer}
-use Rattle.run.specs.declared.Answer.the-variants.{Ran, Refused}
+use Rattle.run.specs.declared.RunAnswer.{RunAnswer}
+use Rattle.run.specs.declared.RunAnswer.the-variants.{Ran, Refused}
 use Rattle.run.specs.declared.Ran as value
 
 one-bus : (a b : Bus) → heard a ≡ heard b → a ≡ b
@@ -22,7 +22,7 @@ one-bus (Differs t) Agrees e = let z : _≡_ {A = ℕ} 0 1 = cc in absurd (omega
 one-bus (Differs t) (Differs u) e = ap Differs (cc)
 
 module _ (bytes t : List ℕ) where
-  one-answer : (a b : Answer) → said a ≡ runOf bytes t .outcome → said b ≡ runOf bytes t .outcome → a ≡ b
+  one-answer : (a b : RunAnswer) → said a ≡ runOf bytes t .outcome → said b ≡ runOf bytes t .outcome → a ≡ b
   one-answer (Ran bus v) (Ran bus′ w) p q =
       let h : ran (heard bus) (found v) ≡ ran (heard bus′) (found w) = p ∙ sym q in
       let e : heard bus ≡ heard bus′ = cc in

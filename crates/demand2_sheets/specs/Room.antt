@@ -1,11 +1,13 @@
--- The trail of 5,120 bytes that the run program lends never lacks room, and no step of a run is refused with it.
+-- The trail that the run program lends never lacks room, and no step of a run is refused with it.
+use mathlib.Core.Bool.{true}
 use mathlib.Core.List.{List}
 use mathlib.Core.Path.{_≡_}
 use Prim.Native.Nat.{ℕ, _*_, _≤_}
 use lib.ListN.{length}
 use Rattle.limits.specs.Limits.{roomMost}
-use Rattle.limits.specs.Refusals.{numberOf}
+use Rattle.limits.specs.Refusals.{numberOf, ofSheet}
 use Rattle.limits.specs.declared.Refusal.{Refusal}
+use Rattle.limits.specs.declared.Refusal.the-variants.{NoRoom}
 use Rattle.trail.specs.Trail.{width}
 use Rattle.sheet_lines.specs.Found.{offence}
 use Rattle.sheet.specs.Sheets.{sheetIn}
@@ -22,10 +24,12 @@ OnlyTheReader =
     (bytes t : List ℕ) → AllRoom t → (number place : ℕ) → runOf bytes t .outcome ≡ refused number place
     → (why : Refusal) × (number ≡ numberOf why) × (sheetIn bytes ≡ offence why place)
 
--- so with 1 to 7 alone
-abbrev pub OneToSeven : Type 0
-OneToSeven = (bytes t : List ℕ) → AllRoom t → (number place : ℕ) → runOf bytes t .outcome ≡ refused number place → number ≤ 7
+-- so with a number that a reader gives
+abbrev pub OfTheReader : Type 0
+OfTheReader =
+    (bytes t : List ℕ) → AllRoom t → (number place : ℕ) → runOf bytes t .outcome ≡ refused number place
+    → (why : Refusal) × (number ≡ numberOf why) × (ofSheet why ≡ true)
 
--- and never with 8
-abbrev pub NeverEight : Type 0
-NeverEight = (bytes t : List ℕ) → AllRoom t → (place : ℕ) → runOf bytes t .outcome ≡ refused 8 place → ⊥
+-- and never for want of room
+abbrev pub NeverWithoutRoom : Type 0
+NeverWithoutRoom = (bytes t : List ℕ) → AllRoom t → (place : ℕ) → runOf bytes t .outcome ≡ refused (numberOf NoRoom) place → ⊥

@@ -1,8 +1,8 @@
 // The engine's runs of document 01 that are run and compared: the room for records, and every kind of refusal of a step, a fresh ring and a verdict.
 use libc::STDOUT_FILENO;
-use ring::Answer;
 use ring::Judged;
 use ring::Ring;
+use ring::StepAnswer;
 use ring::Stepped;
 use ring::Verdict;
 
@@ -39,13 +39,13 @@ fn report(name: &[u8], s: Stepped) {
     let answer = s.answer;
     say(name);
     match answer {
-        Answer::Taken => {
+        StepAnswer::Taken => {
             say(b": taken");
         }
-        Answer::Refused(why, place) => {
+        StepAnswer::Refused(why, place) => {
             say(b": refused");
             say_number(why.number() as usize);
-            say_number(place as usize);
+            say_number(place);
         }
     }
     say(b"; n, time and records");
@@ -69,7 +69,7 @@ fn report_verdict(name: &[u8], j: Judged) {
         Verdict::Refused(why, place) => {
             say(b": refused");
             say_number(why.number() as usize);
-            say_number(place as usize);
+            say_number(place);
         }
     }
     say(b"\n");
@@ -81,19 +81,19 @@ fn fresh(n: usize) -> Ring {
 
 // One step without marks, with room for every record.
 fn quiet(ring: Ring) -> Stepped {
-    let mut trail = [0u8; 5120];
+    let mut trail = trail::empty();
     ring.step(false, 0, &mut trail)
 }
 
 // The step of a fresh ring of 4 in which the owner cannot send makes 3 records: with room for 3, and for 2.
 fn rooms() {
-    let mut three = [7u8; 15];
+    let mut three = [7u8; 3 * trail::WIDTH];
     report(
         b"three records, room for 3",
         fresh(4).step(true, 0, &mut three),
     );
     say_trail(&three);
-    let mut two = [7u8; 14];
+    let mut two = [7u8; 3 * trail::WIDTH - 1];
     report(
         b"three records, room for 2",
         fresh(4).step(true, 0, &mut two),
@@ -143,15 +143,15 @@ fn limits_of_a_ring() {
     r.faults[2] = 7;
     report(b"a first fault just before the time", quiet(r));
     r = fresh(4);
-    r.records = 1025;
+    r.records = limits::ROOM_MOST as u16 + 1;
     report(b"more records than the room", quiet(r));
-    r.records = 1024;
+    r.records = limits::ROOM_MOST as u16;
     report(b"as many records as the room", quiet(r));
 }
 
 // Marks that no step has, and the last time; and which refusal comes first.
 fn marks_and_ends() {
-    let mut trail = [0u8; 5120];
+    let mut trail = trail::empty();
     let mut r = fresh(4);
     report(
         b"a receive mark for the owner",

@@ -9,7 +9,9 @@ use native.Mathlib.Omega.{arith}
 use lib.ListN.{length}
 use borrow.Author.Tests.{eq-eqb}
 use Rattle.limits.specs.Refusals as limits
-use Rattle.limits.specs.Refusals.{numberOf, Told}
+use Rattle.limits.specs.Refusals.{numberOf, ofSheet, Told}
+use Rattle.limits.specs.declared.Refusal.the-variants.{NoRoom}
+use Rattle.limits.proofs.Refusals.{one-reason}
 use Rattle.lists.specs.Counted.{tab}
 use Rattle.ring.specs.Ring.{ownerOf}
 use Rattle.ring.specs.declared.Ring.{Ring}
@@ -28,7 +30,7 @@ use Rattle.run.specs.Marks.{receiveMark, marksAt}
 use Rattle.run.specs.Outcome.{Outcome, refused, Result}
 use Rattle.run.proofs.Reading.{read-is, run-offence}
 use Rattle.run.proofs.Story.{benchAt, Ending, agreed, differed, stopped, run-story}
-use Rattle.demand2_runs.specs.Room.{AllRoom, OnlyTheReader, OneToSeven, NeverEight}
+use Rattle.demand2_sheets.specs.Room.{AllRoom, OnlyTheReader, OfTheReader, NeverWithoutRoom}
 
 -- the marks that a sheet gives to a slot are neither for its owner nor for no seat
 marks-right : (sheet : Sheet) (r : Ring) (t : ℕ) → r .n ≡ sheet .n → r .time ≡ t → ownerOf r < r .n → WrongMark r (marksAt sheet t .receive) → ⊥
@@ -86,8 +88,10 @@ only-the-reader bytes t long number place e =
     (r .0, sym n, rw (← p) (r .2)))
     (read-is bytes)
 
-pub one-to-seven : OneToSeven
-one-to-seven bytes t long number place e = let r = only-the-reader bytes t long number place e in omega (arith, r .1, reader-refusals bytes (r .0) place (r .2))
+pub of-the-reader : OfTheReader
+of-the-reader bytes t long number place e = let r = only-the-reader bytes t long number place e in (r .0, r .1, reader-refusals bytes (r .0) place (r .2))
 
-pub never-eight : NeverEight
-never-eight bytes t long place e = let l = one-to-seven bytes t long 8 place e in omega arith
+pub never-without-room : NeverWithoutRoom
+never-without-room bytes t long place e =
+    let r = of-the-reader bytes t long (numberOf NoRoom) place e in
+    true≢false (sym (r .2) ∙ ap ofSheet (one-reason (r .0) NoRoom (sym (r .1))))

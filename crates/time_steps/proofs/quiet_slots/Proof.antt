@@ -2,8 +2,8 @@
 use borrow.Author.Needs.{needs}
 use mathlib.Core.Path.{_≡_}
 use lib.ListN.{length}
-use Rattle.step_bench.proofs.quiet_slots.Statement.{statement}
-use Rattle.step_bench.proofs.quiet_slots.Tie as tie
+use Rattle.time_steps.proofs.quiet_slots.Statement.{statement}
+use Rattle.time_steps.proofs.quiet_slots.Tie as tie
 
 abbrev Inv-loop : tie.InvT-loop
 Inv-loop trail₀ slots ring₀ left₀ trail ring left = length trail ≡ length trail₀

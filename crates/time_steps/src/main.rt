@@ -15,7 +15,7 @@ fn quiet_slots(start: Ring, trail: &mut [u8], slots: u16) -> u16 {
 
 // A whole run of a fresh ring of 32 in which seat 5 misses slot 0.
 fn whole_run() -> u64 {
-    let mut trail = [0u8; 5120];
+    let mut trail = trail::empty();
     let ring = Ring::zero().fresh(32).ring.step(false, 32, &mut trail).ring;
     quiet_slots(ring, &mut trail, 4095) as u64
 }

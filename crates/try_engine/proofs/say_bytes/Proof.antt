@@ -2,8 +2,8 @@
 use borrow.Author.Needs.{needs}
 use Prim.Native.Nat.{_-_, _≤_}
 use lib.ListN.{length}
-use Rattle.engine_runs.proofs.say_bytes.Statement.{statement}
-use Rattle.engine_runs.proofs.say_bytes.Tie as tie
+use Rattle.try_engine.proofs.say_bytes.Statement.{statement}
+use Rattle.try_engine.proofs.say_bytes.Tie as tie
 
 abbrev Inv-loop : tie.InvT-loop
 Inv-loop trail i₀ i = i ≤ length trail

@@ -1,7 +1,7 @@
 -- `main`: the runs left fall. Assumes nothing.
 use borrow.Author.Needs.{needs}
-use Rattle.step_bench.proofs.main.Statement.{statement}
-use Rattle.step_bench.proofs.main.Tie as tie
+use Rattle.time_steps.proofs.main.Statement.{statement}
+use Rattle.time_steps.proofs.main.Tie as tie
 
 abbrev Inv-loop : tie.InvT-loop
 Inv-loop records₀ left₀ records left = Unit {0}
