@@ -6,6 +6,7 @@ use mathlib.Core.Logic.{⊎-elim}
 use Prim.Native.Nat.{ℕ}
 use native.Mathlib.Omega.{arith}
 use lib.Dec.{ltb}
+use Rattle.limits.specs.Limits.{roomMost}
 use Rattle.ring.specs.Ring.{isRing}
 use Rattle.terms.specs.Terms.{firstFailing}
 use Rattle.ring.specs.Refusals.{Finding, within, outside, unfit, verdictFound}
@@ -60,11 +61,11 @@ run-verdict bytes t bus f e =
     let j = of-sheet bytes t bus f e in
     j .verdict ∙ ap verdictFound (sym (run-story (j .sheet) t .ring)) ∙ ap (λ (y : Result). verdictFound (y .ring)) (sym (j .same))
 
-verdict-fit : (r : Ring) (number place : ℕ) → isRing r 1024 ≡ true → unfit number place ≡ verdictFound r → ⊥
+verdict-fit : (r : Ring) (number place : ℕ) → isRing r roomMost ≡ true → unfit number place ≡ verdictFound r → ⊥
 unfolding verdictFound
-verdict-fit r number place v e = go (ltb (firstFailing r) (r .time)) (rw v at e)
+verdict-fit r number place v e = go (ltb (firstFailing (r .n) (r .faults) (r .time)) (r .time)) (rw v at e)
   where
-    go : (b : Bool) → unfit number place ≡ cond b (outside (firstFailing r)) within → ⊥
+    go : (b : Bool) → unfit number place ≡ cond b (outside (firstFailing (r .n) (r .faults) (r .time))) within → ⊥
     go true q = let z : _≡_ {A = ℕ} 0 1 = cc in omega arith
     go false q = let z : _≡_ {A = ℕ} 0 1 = cc in omega arith
 
@@ -72,4 +73,4 @@ pub never-unfit : NeverUnfit
 never-unfit bytes t bus number place e =
     let j = of-sheet bytes t bus (unfit number place) e in
     let r = benchAt (j .sheet) t (run-story (j .sheet) t .steps) .ring in
-    verdict-fit r number place (valid-ring r 1024 (valid-wider r (omega arith) (last-stands (j .sheet) (j .good) t .valid))) (j .verdict)
+    verdict-fit r number place (valid-ring r roomMost (valid-wider r (omega arith) (last-stands (j .sheet) (j .good) t .valid))) (j .verdict)
