@@ -14,7 +14,7 @@ use Rattle.turn.specs.declared.Decision.{Decision}
 use Rattle.turn.specs.declared.table.Row.{Row}
 
 -- the last two columns: who is removed, with the cause, and the new acknowledgement
-abbrev row : Removal → Bool → Row
+abbrev pub row : Removal → Bool → Row
 row k a = record { removed = k; ack = a }
 
 -- arrived, bit, own ack, own doubt

@@ -1,6 +1,6 @@
 // The table of document 01: what a seat that expects the owner decides, and whom that takes from its set.
 ghost use mathlib.Core.Path.{_≡_};
-ghost use Rattle.turn.specs.Table.{table, arrived, bitOf, decided, goneBy, countOf, withoutAll};
+ghost use Rattle.turn.specs.Table.{row, table, arrived, bitOf, decided, goneBy, countOf, withoutAll};
 use crate::Cause;
 use crate::Decision;
 use crate::Removal;
@@ -12,50 +12,35 @@ pub struct Row {
     pub ack: bool,
 }
 
-// The table, row by row.
+fn gives(removed: Removal, ack: bool) -> Row
+    ensures { λ r. ⌜ r ≡ row removed ack ⌝ }
+{
+    Row { removed, ack }
+}
+
+// The table, row by row: arrived, bit, own ack and doubt; who is removed, with the cause, and the new ack.
 fn table(arrived: bool, bit: bool, ack: bool, doubt: bool) -> Row
     ensures { λ r. ⌜ r ≡ table arrived bit ack doubt ⌝ }
 {
     if arrived {
         if bit {
             if ack {
-                return Row {
-                    removed: Removal::Nobody,
-                    ack: true,
-                };
+                return gives(Removal::Nobody, true);
             }
-            return Row {
-                removed: Removal::Itself(Cause::B),
-                ack: true,
-            };
+            return gives(Removal::Itself(Cause::B), true);
         }
         if ack {
-            if doubt {
-                return Row {
-                    removed: Removal::Itself(Cause::E),
-                    ack: false,
-                };
+            if !doubt {
+                return gives(Removal::Owner(Cause::D), false);
             }
-            return Row {
-                removed: Removal::Owner(Cause::D),
-                ack: false,
-            };
+            return gives(Removal::Itself(Cause::E), false);
         }
-        return Row {
-            removed: Removal::Nobody,
-            ack: true,
-        };
+        return gives(Removal::Nobody, true);
     }
     if ack {
-        return Row {
-            removed: Removal::Owner(Cause::C),
-            ack: false,
-        };
+        return gives(Removal::Owner(Cause::C), false);
     }
-    Row {
-        removed: Removal::Both(Cause::A, Cause::C),
-        ack: false,
-    }
+    gives(Removal::Both(Cause::A, Cause::C), false)
 }
 
 // Whether the bit arrived.
