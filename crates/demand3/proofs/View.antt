@@ -2,7 +2,7 @@
 use mathlib.Core.Bool.{Bool, true, false, not, _&&_, and-comm}
 use mathlib.Core.Logic.{⊎-elim}
 use mathlib.Core.Path.{_≡_, refl, sym, ap, _∙_, subst}
-use Prim.Native.Nat.{ℕ, zero, suc, _≤_}
+use Prim.Native.Nat.{ℕ, zero, suc, _+_, _≤_}
 use native.Mathlib.Numerals.{add-one}
 use native.Mathlib.Omega.{arith}
 use lib.Dec.{eqb, ltb}
@@ -10,16 +10,16 @@ use borrow.Author.Tests.{ne-eqb, ltb-true, ltb-false}
 use Rattle.lists.proofs.Tests.{both}
 use Rattle.seats.specs.Sets.{hasSeat}
 use Rattle.seats.proofs.Sets.{nobody-in}
-use Rattle.ring.specs.Ring.{seatOf}
+use Rattle.ring.specs.Ring.{seatOf, ownerOf}
 use Rattle.turn.specs.declared.table.Row.{Row}
 use Rattle.turn.specs.Table.{table, arrived, bitOf, decided}
-use Rattle.turn.specs.Turn.{viewOf, misses, faultAfter, ownerTurn, otherTurn, turnOf}
+use Rattle.turn.specs.Turn.{viewOf, isMissed, faultAfter, ownerTurn, otherTurn, turnOf}
 use Rattle.ring.specs.Step.{slotOf, ringAfter}
 use Rattle.ring.specs.declared.Ring.{Ring}
 use Rattle.turn.specs.declared.Seat.{Seat}
 use Rattle.turn.specs.declared.Slot.{Slot}
 use Rattle.turn.proofs.GoneLaws.{takesItself, takesOwner, gone-has}
-use Rattle.steps.proofs.Seen.{speaks-is, view-table}
+use Rattle.steps.proofs.Seen.{view-table, view-missed}
 use Rattle.turn.proofs.TurnLaws.{turn-elim}
 use Rattle.steps.proofs.After.{seat-after, seat-beyond}
 use Rattle.demand3.specs.Model.{State, Given, selfGone, ownerGone, newAck, first, owns, acts, rests, role}
@@ -59,7 +59,7 @@ rows false bit false doubt = refl
 
 -- ---- first faults
 
-first-is : (held : Bool) (time fault : ℕ) → faultAfter held time fault ≡ first held time fault
+first-is : (held : Bool) (time fault : ℕ) → faultAfter held (time + 1) fault ≡ first held time fault
 first-is true time zero = add-one time
 first-is false time zero = refl
 first-is true time (suc f) = rw (ne-eqb (suc f) 0 (omega arith))
@@ -84,6 +84,10 @@ module _ (r : Ring) (send : Bool) (receive : ℕ) where
 
   abbrev t : Given
   t = givenOf r send receive
+
+  -- what the owner has to say
+  abbrev bit : Bool
+  bit = seatOf r (ownerOf r) .ack
 
   module _ (p : ℕ) where
     abbrev s : Seat
@@ -111,10 +115,8 @@ module _ (r : Ring) (send : Bool) (receive : ℕ) where
 
     row : says (table (arrived (viewOf slot p)) (bitOf (viewOf slot p)) (s .ack) (s .doubt)) ≡ (leaves t p, drops t p, learns t p)
     row =
-        ap says
-        (view-table (slot .speaks) (hasSeat receive p) (slot .bit) (s .ack) (s .doubt)
-        ∙ ap (λ (x : Bool). table (x && not (hasSeat receive p)) (slot .bit) (s .ack) (s .doubt)) (speaks-is r send receive))
-        ∙ rows (speaks t && not (hasSeat receive p)) (slot .bit) (s .ack) (s .doubt)
+        ap says (view-table (speaks t) (hasSeat receive p) bit (s .ack) (s .doubt))
+        ∙ rows (speaks t && not (hasSeat receive p)) bit (s .ack) (s .doubt)
 
     acting : role t p ≡ acts → Matches t p (otherTurn slot p s .seat)
     acting o =
@@ -130,9 +132,9 @@ module _ (r : Ring) (send : Bool) (receive : ℕ) where
               ∙ sym e;
           ack = ap (λ (x : Bool × Bool × Bool). x .2) row ∙ sym k;
           doubt = cc;
-          fault = first-is (misses slot p) (r .time) (s .fault)
+          fault = first-is (isMissed (viewOf slot p)) (r .time) (s .fault)
               ∙ ap (λ (x : Bool). first x (r .time) (s .fault))
-              (ap (λ (x : Bool). x && hasSeat receive p) (speaks-is r send receive) ∙ and-comm (speaks t) (hasSeat receive p) ∙ sym h);
+              (view-missed (speaks t) (hasSeat receive p) bit ∙ and-comm (speaks t) (hasSeat receive p) ∙ sym h);
         }
 
     matches : Matches t p (turnOf slot p s .seat)
