@@ -9,10 +9,10 @@ use Rattle.ring.specs.declared.Ring.{Ring}
 use Rattle.turn.specs.declared.Seat.{Seat}
 use Rattle.steps.specs.Run.{Marks, Bench, Reached}
 use Rattle.steps.proofs.Reached.{fresh-n, fresh-seat, fresh-beyond, benchAfter, reached-elim}
-use Rattle.demand3.specs.Model.{Given, Fresh, Terms, step}
+use Rattle.demand3.proofs.Model.{Marked, Fresh, Terms, step}
 use Rattle.demand3.proofs.Seat.{back-terms}
 use Rattle.demand3.proofs.Kept.{Kept, fresh-kept, step-kept}
-use Rattle.demand3.proofs.View.{stateOf, givenOf, EmptyBeyond, empty-after, state-after}
+use Rattle.demand3.proofs.View.{stateOf, markedOf, EmptyBeyond, empty-after, state-after}
 
 -- ---- a fresh ring
 
@@ -45,8 +45,8 @@ follows-step m b w = record { empty = empty-after r (m .send) (m .receive) (w .e
     r : Ring
     r = b .ring
 
-    given : Given
-    given = givenOf r (m .send) (m .receive)
+    given : Marked
+    given = markedOf r (m .send) (m .receive)
 
     is : stateOf (benchAfter m b .ring) ≡ step given
     is = state-after r (m .send) (m .receive) (w .empty)

@@ -13,9 +13,9 @@ use Rattle.ring.proofs.Checked.{valid-ring, valid-wider}
 use Rattle.steps.proofs.Reached.{benchAfter, step-after, reached-stands}
 use Rattle.demand3.specs.Faults.{FirstFault, Apart, TermsHold}
 use Rattle.demand3.specs.Verdict.{TermsKept}
-use Rattle.demand3.specs.Model.{State, Faulty, Terms}
+use Rattle.demand3.proofs.Model.{State, Faulty, Terms}
 use Rattle.demand3.proofs.Seat.{stays-faulty}
-use Rattle.demand3.proofs.View.{stateOf, givenOf, state-after}
+use Rattle.demand3.proofs.View.{stateOf, markedOf, state-after}
 use Rattle.demand3.proofs.Along.{along}
 use Rattle.demand3.proofs.Decided.{decides}
 use Rattle.demand3.proofs.Read.{to-faulty, from-faulty}
@@ -44,7 +44,7 @@ module _ (n : ℕ) (trail : List ℕ) (low : 2 ≤ n) (high : n ≤ 32) {b : Ben
   remembered {x} {f} y =
       let is = state-after (b .ring) (m .send) (m .receive) (along n trail low high run .empty) in
       from-faulty (benchAfter m b .ring)
-      (subst (λ (s : State). Faulty s x f) (sym is) (stays-faulty (givenOf (b .ring) (m .send) (m .receive)) (to-faulty (b .ring) y)))
+      (subst (λ (s : State). Faulty s x f) (sym is) (stays-faulty (markedOf (b .ring) (m .send) (m .receive)) (to-faulty (b .ring) y)))
 
   held : (t : ℕ) → TermsHold (benchAfter m b .ring) t → TermsHold (b .ring) t
   held t w = record {

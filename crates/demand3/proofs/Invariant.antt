@@ -10,7 +10,7 @@ use lib.Dec.{eqb, ltb}
 use borrow.Author.Tests.{ltb-true, ltb-false}
 use Rattle.lists.proofs.Tests.{both, same?}
 use Rattle.demand3.proofs.Slots.{OwnSlot, own-slot}
-use Rattle.demand3.specs.Model.{State, Sound, Faulty}
+use Rattle.demand3.proofs.Model.{State, Sound, Faulty}
 
 module _ (s : State) where
   open State s using (n, time, set, ack, doubt)

@@ -10,14 +10,14 @@ use native.Mathlib.Omega.{arith}
 use lib.Dec.{ltb}
 use borrow.Author.Tests.{ltb-true, ltb-false}
 use Rattle.lists.proofs.Tests.{both, same?}
-use Rattle.demand3.specs.Model.{State, Given, owns, acts, owner, role, arrived, hold, step, Sound, Faulty, Terms}
+use Rattle.demand3.proofs.Model.{State, Marked, owns, acts, owner, role, hold, step, Sound, Faulty, Terms}
 use Rattle.demand3.proofs.Seat.{Kind, sound, faulty, kind, differ, stays-faulty, unheld, held}
-use Rattle.demand3.proofs.Seat.{role-own, role-act, role-out, role-blind, still, own-set, act-nobody, agree-stays, agree-keeps, agree-acks}
+use Rattle.demand3.proofs.Seat.{role-own, role-act, role-out, role-blind, still, own-set, act-nobody, agree-row}
 use Rattle.demand3.proofs.Invariant.{Holds, Alone, Ahead, Active, Latest, gone, alone, active, Pending, Low, NoneSound, Top, Passed, Inv, soon, settle}
 
 -- a step within the fault terms, from a state of which the invariant holds
 pub record Move : Type 0 where
-  pub given : Given
+  pub given : Marked
   pub last : ℕ
   pub bit : Bool
   pub due : Bool
@@ -26,7 +26,7 @@ pub record Move : Type 0 where
 
 module _ (m : Move) where
   open Move m using (given, last, bit, due, inv, terms)
-  open Given given using (now)
+  open Marked given using (now)
   open State now using (n, time, set)
 
   -- the slot's owner, and the state after the step
@@ -99,14 +99,8 @@ module _ (m : Move) where
       other : (p ≡ o → ⊥) → Hears p
       other i =
           let r : role given p ≡ acts = role-sound so sp i in
-          let h : arrived given p ≡ true = cc (es, sees so so, heard i) in
-          let x : now .ack p ≡ bit = inv .holds sp .says in
-          let y : now .ack o ≡ bit = inv .holds so .says in
-          record {
-            same = act-nobody given p r (cc (h, x, y, agree-stays bit (now .doubt p))) (cc (h, x, y, agree-keeps bit (now .doubt p)));
-            acks = cc (r, h, x, y, agree-acks bit);
-            sure = λ k. cc r;
-          }
+          let w = agree-row given p (cc (es, sees so so, heard i)) (inv .holds sp .says ∙ sym (inv .holds so .says)) in
+          record { same = act-nobody given p r (cc w) (cc w); acks = cc (r, w); sure = λ k. cc r }
 
   -- ---- first faults
 
