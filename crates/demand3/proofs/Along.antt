@@ -2,6 +2,7 @@
 use mathlib.Core.List.{List}
 use mathlib.Core.Path.{_≡_, sym, ap, _∙_, subst}
 use Prim.Native.Nat.{ℕ, _≤_, _<_}
+use Rattle.limits.specs.Limits.{seatsLeast, seatsMost}
 use Rattle.seats.specs.Sets.{hasSeat}
 use Rattle.seats.proofs.Sets.{full-has}
 use Rattle.ring.specs.Ring.{seatOf, freshSeat, freshRing}
@@ -19,7 +20,7 @@ use Rattle.demand3.proofs.View.{stateOf, markedOf, EmptyBeyond, empty-a
 fresh-empty : (n : ℕ) → EmptyBeyond (freshRing n)
 fresh-empty n p h = ap (λ (s : Seat). s .set) (fresh-beyond n p (rw (fresh-n n) at h))
 
-module _ (n : ℕ) (low : 2 ≤ n) (high : n ≤ 32) where
+module _ (n : ℕ) (low : seatsLeast ≤ n) (high : n ≤ seatsMost) where
   seat-is : (p : ℕ) → p < freshRing n .n → seatOf (freshRing n) p ≡ freshSeat n
   seat-is p h = fresh-seat n p (rw (fresh-n n) at h)
 
@@ -54,7 +55,7 @@ follows-step m b w = record { empty = empty-after r (m .send) (m .receive) (w .e
     next : Terms (step given) → Kept (step given)
     next t = step-kept given (w .kept (back-terms given t)) t
 
-module _ (n : ℕ) (trail : List ℕ) (low : 2 ≤ n) (high : n ≤ 32) where
+module _ (n : ℕ) (trail : List ℕ) (low : seatsLeast ≤ n) (high : n ≤ seatsMost) where
   pub along : {b : Bench} → Reached n trail b → Follows b
   along =
       reached-elim n trail low high Follows

@@ -3,7 +3,7 @@ use mathlib.Core.List.{List}
 use mathlib.Core.Path.{_≡_, sym, ap, _∙_, subst}
 use Prim.Native.Nat.{ℕ, _+_, _≤_, _<_}
 use native.Mathlib.Omega.{arith}
-use Rattle.limits.specs.Limits.{roomMost}
+use Rattle.limits.specs.Limits.{seatsLeast, seatsMost, roomMost}
 use Rattle.limits.specs.Refusals.{done}
 use Rattle.ring.specs.Refusals.{verdictFound, within}
 use Rattle.ring.specs.declared.Ring.{Ring}
@@ -38,7 +38,7 @@ module _ (r : Ring) (room : ℕ) (v : Valid r room) where
 
 -- ---- a step before
 
-module _ (n : ℕ) (trail : List ℕ) (low : 2 ≤ n) (high : n ≤ 32) {b : Bench} (run : Reached n trail b) (m : Marks) where
+module _ (n : ℕ) (trail : List ℕ) (low : seatsLeast ≤ n) (high : n ≤ seatsMost) {b : Bench} (run : Reached n trail b) (m : Marks) where
   -- first faults are never forgotten
   remembered : {x f : ℕ} → FirstFault (b .ring) x f → FirstFault (benchAfter m b .ring) x f
   remembered {x} {f} y =

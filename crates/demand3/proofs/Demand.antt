@@ -6,6 +6,7 @@ use mathlib.Core.List.{List, [], _∷_}
 use mathlib.Core.Logic.{⊎-elim}
 use mathlib.Core.Path.{_≡_, sym, ap, _∙_}
 use Prim.Native.Nat.{ℕ, _+_, _≤_}
+use Rattle.limits.specs.Limits.{seatsLeast, seatsMost}
 use Rattle.ring.specs.Refusals.{verdictFound, within}
 use Rattle.steps.specs.Run.{Marks, Bench, toldOn, stepOn, freshBench, Reached, start, runOn}
 use Rattle.steps.proofs.Taken.{told-is}
@@ -23,7 +24,7 @@ step-reached : {n : ℕ} {trail : List ℕ} {b : Bench} → Reached n trail b �
 unfolding runOn
 step-reached run m = run-reached (m ∷ []) run
 
-module _ (n : ℕ) (trail : List ℕ) (low : 2 ≤ n) (high : n ≤ 32) where
+module _ (n : ℕ) (trail : List ℕ) (low : seatsLeast ≤ n) (high : n ≤ seatsMost) where
   -- a verdict `within` after a step, taken or refused, was one before it
   within-step : {b : Bench} → Reached n trail b → (m : Marks) → verdictFound (stepOn m b .ring) ≡ within → verdictFound (b .ring) ≡ within
   within-step {b} run m h =
