@@ -50,7 +50,7 @@ module _ (r : Ring) where
       one-faulty = λ sp fx fy. a .one-faulty (to-sound sp) (to-faulty fx) (to-faulty fy);
       only-seats = λ sp. inside (sp .seat);
       left-by = λ sp fx k low high own. a .removed-by (to-sound sp) (to-faulty fx) k low (omega arith) own;
-      stays-till = λ sp fx. a .kept-till (to-sound sp) (to-faulty fx);
+      stays-till = λ sp fx ahead. a .kept-till (to-sound sp) (to-faulty fx) (λ k low high own. ahead k low (omega arith) own);
       gone-by = λ {x} fx h. gone x (fx .seat) (a .ended-by (to-faulty fx) (omega arith));
     }
       where

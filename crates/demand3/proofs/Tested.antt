@@ -25,6 +25,11 @@ apart-if false false b d h = refl
 apart-if false true false d h = refl
 apart-if false true true d h = h refl refl refl
 
+-- ---- so far apart, and so no less far
+
+pub closer : {a b : ℕ} {r : Ring} {t : ℕ} → Apart a r t → b ≤ a → Apart b r t
+closer w l = record { spaced = λ fx fy ne h k. omega (arith, w .spaced fx fy ne h k) }
+
 module _ (r : Ring) (t : ℕ) where
   -- ---- faulty by the step
 
@@ -47,7 +52,7 @@ module _ (r : Ring) (t : ℕ) where
   sound-after p h e = record {
     seat = h;
     later = λ {f} y.
-        ⊎-elim (λ l. absurd (false≢true (sym e ∙ fault-faulty y (leb-true f t l)))) (λ l. leb-false f t l) (both (leb f t));
+        ⊎-elim (λ l. absurd (false≢true (sym e ∙ fault-faulty y (leb-true f t l)))) (λ l. omega (arith, leb-false f t l)) (both (leb f t));
   }
 
   after-sound : (p : ℕ) → SoundAfter r t p → faulty p ≡ false
@@ -124,8 +129,8 @@ module _ (r : Ring) (t : ℕ) where
   unfolding termsHold
   hold-terms h =
       let k = and-true (allBelow (r .n) (λ p. allBelow (r .n) (apart (r .n) p))) (leb soundLeast (countBelow (r .n) sound)) h in
-      record { apart = all-apart (r .n) (k .0); sound = counted-sound (leb-true _ _ (k .1)) }
+      record { apart = closer (all-apart (r .n) (k .0)) (omega arith); sound = counted-sound (leb-true _ _ (k .1)) }
 
   pub terms-hold : TermsHold r t → termsHold (r .n) (r .faults) t ≡ true
   unfolding termsHold
-  terms-hold w = and-of (apart-all (r .n) (w .apart)) (le-leb soundLeast (countBelow (r .n) sound) (sound-counted (w .sound)))
+  terms-hold w = and-of (apart-all (r .n) (closer (w .apart) (omega arith))) (le-leb soundLeast (countBelow (r .n) sound) (sound-counted (w .sound)))
