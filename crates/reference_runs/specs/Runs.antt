@@ -1,22 +1,22 @@
--- The runs of document 01 that are marked (P), one row each: what is given, and what document 01 says comes of it.
+-- The runs of document 01 that are marked (P), one row each: what is asked, and what document 01 says comes of it.
 use mathlib.Core.Bool.{Bool, true, false}
 use mathlib.Core.List.{List, [], _∷_, _++_}
 use Prim.Native.Nat.{ℕ}
 use Rattle.turn.specs.Table.{gone}
-use Rattle.trail.specs.Trail.{recordOf}
+use Rattle.trail.specs.Trail.{recordOf, bytesOf}
 use Rattle.ring.specs.Refusals.{within, outside}
 use Rattle.turn.specs.declared.Cause.{Cause}
 use Rattle.turn.specs.declared.Cause.the-variants.{A, B, C, D, E}
 use Rattle.limits.specs.Refusals.{refused}
 use Rattle.steps.specs.Run.{quiet, sendFault, missedBy}
-use Rattle.reference_runs.specs.Outcome.{Given, stepped, read, Held, Outcome, came, told}
+use Rattle.reference_runs.specs.Reply.{Asked, stepped, read, Held, Reply, came, answered}
 
 pub record Run : Type 0 where
-  pub given : Given
-  pub stated : Outcome
+  pub asked : Asked
+  pub stated : Reply
 
-abbrev run : Given → Outcome → Run
-run g o = record { given = g; stated = o }
+abbrev run : Asked → Reply → Run
+run a s = record { asked = a; stated = s }
 
 -- a seat that is in, or out, with the seats in its set and its acknowledgement
 abbrev holds : List ℕ → Bool → Held
@@ -27,7 +27,7 @@ outWith set ack = record { set = set; ack = ack; isOut = true }
 
 -- a record: time, holder, removed seat, cause
 abbrev removed : ℕ → ℕ → ℕ → Cause → List ℕ
-removed time p q c = recordOf time p (gone q c)
+removed time p q c = bytesOf (recordOf time p (gone q c))
 
 unfoldable pub runs : List Run
 runs =
@@ -70,13 +70,13 @@ runs =
     ++ removed 5 0 1 C ++ removed 5 2 1 C)
     within)
     -- the empty sheet
-    ∷ run (read []) (told (refused 1 0))
+    ∷ run (read []) (answered (refused 1 0))
     -- `1`, line feed
-    ∷ run (read (49 ∷ 10 ∷ [])) (told (refused 3 0))
+    ∷ run (read (49 ∷ 10 ∷ [])) (answered (refused 3 0))
     -- `02`
-    ∷ run (read (48 ∷ 50 ∷ [])) (told (refused 2 1))
+    ∷ run (read (48 ∷ 50 ∷ [])) (answered (refused 2 1))
     -- lines 2, 7, 7
-    ∷ run (read (50 ∷ 10 ∷ 55 ∷ 10 ∷ 55 ∷ 10 ∷ [])) (told (refused 4 4))
+    ∷ run (read (50 ∷ 10 ∷ 55 ∷ 10 ∷ 55 ∷ 10 ∷ [])) (answered (refused 4 4))
     -- lines 2, 7, 8, 1, `0 1 S`, 0
-    ∷ run (read (50 ∷ 10 ∷ 55 ∷ 10 ∷ 56 ∷ 10 ∷ 49 ∷ 10 ∷ 48 ∷ 32 ∷ 49 ∷ 32 ∷ 83 ∷ 10 ∷ 48 ∷ 10 ∷ [])) (told (refused 6 8))
+    ∷ run (read (50 ∷ 10 ∷ 55 ∷ 10 ∷ 56 ∷ 10 ∷ 49 ∷ 10 ∷ 48 ∷ 32 ∷ 49 ∷ 32 ∷ 83 ∷ 10 ∷ 48 ∷ 10 ∷ [])) (answered (refused 6 8))
     ∷ []
