@@ -1,4 +1,5 @@
--- Every ring that a run comes to is read as a state of which the model's invariant holds, if the fault terms hold of it. Assumes nothing.
+-- Every ring that a run comes to is read as a state of which the model's invariant holds, if the fault terms
+-- hold of it. Assumes nothing.
 use mathlib.Core.List.{List}
 use mathlib.Core.Path.{_≡_, sym, ap, _∙_, subst}
 use Prim.Native.Nat.{ℕ, _≤_, _<_}

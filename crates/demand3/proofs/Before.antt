@@ -1,4 +1,5 @@
--- The fault terms of a ring: what they say of the state that it is read as, and that they held before every step. Assumes nothing.
+-- The fault terms of a ring: what they say of the state that it is read as, and that they held before every
+-- step. Assumes nothing.
 use mathlib.Core.List.{List}
 use mathlib.Core.Path.{_≡_, sym, ap, _∙_, subst}
 use Prim.Native.Nat.{ℕ, _+_, _≤_, _<_}

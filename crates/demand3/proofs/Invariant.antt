@@ -1,6 +1,6 @@
--- The invariant of a run within the fault terms, over the present state alone: `last` is one more than the time of the latest first fault
--- (0: none), `bit` the acknowledgement of the sound seats, and `due` whether the latest faulty seat is still in their sets, its own slot
--- being still to come. Assumes nothing.
+-- The invariant of a run within the fault terms, over the present state alone: `last` is one more than the
+-- time of the latest first fault (0: none), `bit` the acknowledgement of the sound seats, and `due` whether
+-- the latest faulty seat is still in their sets, its own slot being still to come. Assumes nothing.
 use mathlib.Core.Bool.{Bool, true, false, not, _&&_, _||_}
 use mathlib.Core.Logic.{_⊎_, ⊎-elim}
 use mathlib.Core.Path.{_≡_}
@@ -30,8 +30,8 @@ module _ (s : State) where
   abbrev pub Ahead : ℕ → ℕ → Type 0
   Ahead f u = (k : ℕ) → f ≤ k → k < time → k % n ≡ u → ⊥
 
-  -- the latest faulty seat, with its first fault at f, while it is in and has others in its set: its bit is not that of the sound seats,
-  -- and each other that it has is sound and has still to speak
+  -- the latest faulty seat, with its first fault at f, while it is in and has others in its set: its bit is
+  -- not that of the sound seats, and each other that it has is sound and has still to speak
   pub record Active (f : ℕ) (bit due : Bool) (x : ℕ) : Type 0 where
     pub inside : set x x ≡ true
     pub kin : (u : ℕ) → u < n → set x u ≡ true → (u ≡ x → ⊥) → Sound s u × Ahead f u

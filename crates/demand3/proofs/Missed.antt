@@ -1,4 +1,5 @@
--- A first fault by receiving: the sound seat c misses the sound owner, and drops it; the others hear, and keep c until its slot. Assumes nothing.
+-- A first fault by receiving: the sound seat c misses the sound owner, and drops it; the others hear, and
+-- keep c until its slot. Assumes nothing.
 use mathlib.Core.Bool.{true, false, false≢true, true≢false}
 use mathlib.Core.Logic.{⊎-elim}
 use mathlib.Core.Path.{_≡_, refl, sym, _∙_, ap}

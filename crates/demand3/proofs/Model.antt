@@ -1,5 +1,6 @@
--- Serves the proofs alone: nothing that a reader must believe rests on this file. The ring over functions of the
--- seats, with the engine's own table: the model in which agreement is argued. View shows that its step is the engine's.
+-- Serves the proofs alone: nothing that a reader must believe rests on this file. The ring over functions of
+-- the seats, with the engine's own table: the model in which agreement is argued. View shows that its step is the
+-- engine's.
 use mathlib.Core.Bool.{Bool, true, false, not, _&&_}
 use mathlib.Core.Logic.{_⊎_}
 use mathlib.Core.Path.{_≡_}
@@ -117,7 +118,8 @@ module _ (s : State) where
     pub seat : x < n
     pub since : fault x ≡ suc f
 
-  -- first faults are at least n + 1 slots apart. (Document 01 asks for two sound seats too; agreement does not need them)
+  -- first faults are at least n + 1 slots apart. (Document 01 asks for two sound seats too; agreement does
+  -- not need them)
   pub record Terms : Type 0 where
     pub apart : {x y f g : ℕ} → Faulty x f → Faulty y g → (x ≡ y → ⊥) → f ≤ g → f + n < g
 

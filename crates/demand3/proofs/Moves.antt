@@ -1,6 +1,7 @@
--- What every kind of step shares: a seat that is out or alone stays so, first faults are spaced, and what is left to show that the invariant
--- is kept, by a step with a first fault and by one without. Assumes nothing.
--- Names, here and in the kinds of step: `so` and `sp` say that the owner and p are sound, `fx` that x is faulty, `e..` are equations.
+-- What every kind of step shares: a seat that is out or alone stays so, first faults are spaced, and what is
+-- left to show that the invariant is kept, by a step with a first fault and by one without. Assumes nothing.
+-- Names, here and in the kinds of step: `so` and `sp` say that the owner and p are sound, `fx` that x is
+-- faulty, `e..` are equations.
 use mathlib.Core.Bool.{Bool, true, false, not, false≢true, true≢false, _||_}
 use mathlib.Core.Logic.{_⊎_, inl, inr, ⊎-elim}
 use mathlib.Core.Path.{_≡_, refl, sym, _∙_, ap}
@@ -218,7 +219,8 @@ module _ (m : Move) where
     pub back-faulty : {x f : ℕ} → Faulty later x f → Faulty now x f
     back-faulty y = faulty-before y keeps-sound
 
-    -- what an active seat x goes on by: only the owner may leave its set, and its bit is still not that of the sound seats
+    -- what an active seat x goes on by: only the owner may leave its set, and its bit is still not that of
+    -- the sound seats
     pub record Carried (f x : ℕ) (bit′ due′ : Bool) : Type 0 where
       pub before : due′ ≡ true → suc time < f + n
       pub same : (u : ℕ) → (u ≡ o → ⊥) → set′ x u ≡ set x u

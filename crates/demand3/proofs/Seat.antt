@@ -96,10 +96,12 @@ module _ (t : Marked) (p : ℕ) where
 
 -- ---- the rows that the argument uses
 
+-- a seat that hears its own bit
 agreed : (x d : Bool) → table true x x d ≡ record { removed = Nobody; ack = true }
 agreed true d = refl
 agreed false d = refl
 
+-- a seat with its bit false, where the owner's is true
 above : (arrived d : Bool) → takesItself (table arrived true false d .removed) ≡ true
 above true d = refl
 above false d = refl

@@ -1,4 +1,5 @@
--- The fault terms are tight in their distance, agreement needs the distance alone, and a faulty seat may stay in its own set alone. Assumes nothing.
+-- The fault terms are tight in their distance, agreement needs the distance alone, and a faulty seat may stay
+-- in its own set alone. Assumes nothing.
 use mathlib.Core.Bool.{true, false, not, false≢true}
 use mathlib.Core.Path.{_≡_, refl, sym, ap, _∙_}
 use Prim.Native.Nat.{ℕ, zero, suc}

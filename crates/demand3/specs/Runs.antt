@@ -1,4 +1,5 @@
--- Runs that show that no part of demand 3 is empty, that the fault terms are tight, and how late a removal can be; each with what comes of it.
+-- Runs that show that no part of demand 3 is empty, that the fault terms are tight, and how late a removal
+-- can be; each with what comes of it.
 use mathlib.Core.Bool.{Bool, true, false}
 use mathlib.Core.List.{List, [], _∷_}
 use Prim.Native.Nat.{ℕ, _-_, _*_}
@@ -17,7 +18,8 @@ pub data Run : Type 0 where
   fiveApart : Run
   -- of document 01: n = 4, seat 3 misses time 0, send fault of 0 at time 4, four apart
   fourApart : Run
-  -- n = 3, seat 2 misses time 0 and cannot send at time 2, send fault of 0 at time 3, three apart: one sound seat is left
+  -- n = 3, seat 2 misses time 0 and cannot send at time 2, send fault of 0 at time 3, three apart: one sound
+  -- seat is left
   threeApart : Run
   -- of document 01: n = 3, seat 1 misses time 0 and time 2
   alone : Run

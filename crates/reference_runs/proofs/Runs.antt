@@ -1,4 +1,5 @@
--- Every run of the table comes out as document 01 states it: by computation, over the engine's and the reader's own definitions. Assumes nothing.
+-- Every run of the table comes out as document 01 states it: by computation, over the engine's and the
+-- reader's own definitions. Assumes nothing.
 use mathlib.Core.Path.{_≡_, refl}
 use mathlib.Core.List.{map}
 use Rattle.ring.specs.Ring.{zeroRing, freshRing, everySeatStands, isRing}

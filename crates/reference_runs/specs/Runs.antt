@@ -1,4 +1,5 @@
--- The runs of document 01 that are marked (P), one row each: what is asked, and what document 01 says comes of it.
+-- The runs of document 01 that are marked (P), one row each: what is asked, and what document 01 says comes
+-- of it.
 use mathlib.Core.Bool.{Bool, true, false}
 use mathlib.Core.List.{List, [], _∷_, _++_}
 use Prim.Native.Nat.{ℕ}
