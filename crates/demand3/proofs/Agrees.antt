@@ -8,7 +8,7 @@ use lib.Dec.{eqb, ltb}
 use borrow.Author.Tests.{eqb-true, eq-eqb, ne-eqb, ltb-true, ltb-false}
 use Rattle.lists.proofs.Tests.{both, and-true, and-of, same?}
 use Rattle.demand3.proofs.Slots.{OwnSlot, own-slot}
-use Rattle.demand3.specs.Model.{State, Sound, Faulty, Terms, Agrees}
+use Rattle.demand3.proofs.Model.{State, Sound, Faulty, Terms, Agrees}
 use Rattle.demand3.proofs.Seat.{Kind, sound, faulty, kind}
 use Rattle.demand3.proofs.Invariant.{Alone, Latest, gone, alone, active, Pending, Top}
 use Rattle.demand3.proofs.Kept.{Kept}

@@ -1,7 +1,9 @@
--- Every ring that a run comes to is read as a state of which the model's invariant holds, if the fault terms hold of it. Assumes nothing.
+-- Every ring that a run comes to is read as a state of which the model's invariant holds, if the fault terms
+-- hold of it. Assumes nothing.
 use mathlib.Core.List.{List}
 use mathlib.Core.Path.{_≡_, sym, ap, _∙_, subst}
 use Prim.Native.Nat.{ℕ, _≤_, _<_}
+use Rattle.limits.specs.Limits.{seatsLeast, seatsMost}
 use Rattle.seats.specs.Sets.{hasSeat}
 use Rattle.seats.proofs.Sets.{full-has}
 use Rattle.ring.specs.Ring.{seatOf, freshSeat, freshRing}
@@ -9,17 +11,17 @@ use Rattle.ring.specs.declared.Ring.{Ring}
 use Rattle.turn.specs.declared.Seat.{Seat}
 use Rattle.steps.specs.Run.{Marks, Bench, Reached}
 use Rattle.steps.proofs.Reached.{fresh-n, fresh-seat, fresh-beyond, benchAfter, reached-elim}
-use Rattle.demand3.specs.Model.{Given, Fresh, Terms, step}
+use Rattle.demand3.proofs.Model.{Marked, Fresh, Terms, step}
 use Rattle.demand3.proofs.Seat.{back-terms}
 use Rattle.demand3.proofs.Kept.{Kept, fresh-kept, step-kept}
-use Rattle.demand3.proofs.View.{stateOf, givenOf, EmptyBeyond, empty-after, state-after}
+use Rattle.demand3.proofs.View.{stateOf, markedOf, EmptyBeyond, empty-after, state-after}
 
 -- ---- a fresh ring
 
 fresh-empty : (n : ℕ) → EmptyBeyond (freshRing n)
 fresh-empty n p h = ap (λ (s : Seat). s .set) (fresh-beyond n p (rw (fresh-n n) at h))
 
-module _ (n : ℕ) (low : 2 ≤ n) (high : n ≤ 32) where
+module _ (n : ℕ) (low : seatsLeast ≤ n) (high : n ≤ seatsMost) where
   seat-is : (p : ℕ) → p < freshRing n .n → seatOf (freshRing n) p ≡ freshSeat n
   seat-is p h = fresh-seat n p (rw (fresh-n n) at h)
 
@@ -45,8 +47,8 @@ follows-step m b w = record { empty = empty-after r (m .send) (m .receive) (w .e
     r : Ring
     r = b .ring
 
-    given : Given
-    given = givenOf r (m .send) (m .receive)
+    given : Marked
+    given = markedOf r (m .send) (m .receive)
 
     is : stateOf (benchAfter m b .ring) ≡ step given
     is = state-after r (m .send) (m .receive) (w .empty)
@@ -54,7 +56,7 @@ follows-step m b w = record { empty = empty-after r (m .send) (m .receive) (w .e
     next : Terms (step given) → Kept (step given)
     next t = step-kept given (w .kept (back-terms given t)) t
 
-module _ (n : ℕ) (trail : List ℕ) (low : 2 ≤ n) (high : n ≤ 32) where
+module _ (n : ℕ) (trail : List ℕ) (low : seatsLeast ≤ n) (high : n ≤ seatsMost) where
   pub along : {b : Bench} → Reached n trail b → Follows b
   along =
       reached-elim n trail low high Follows

@@ -1,9 +1,10 @@
--- The fault terms of a ring: what they say of the state that it is read as, and that they held before every step. Assumes nothing.
+-- The fault terms of a ring: what they say of the state that it is read as, and that they held before every
+-- step. Assumes nothing.
 use mathlib.Core.List.{List}
 use mathlib.Core.Path.{_≡_, sym, ap, _∙_, subst}
 use Prim.Native.Nat.{ℕ, _+_, _≤_, _<_}
 use native.Mathlib.Omega.{arith}
-use Rattle.limits.specs.Limits.{roomMost}
+use Rattle.limits.specs.Limits.{seatsLeast, seatsMost, roomMost}
 use Rattle.limits.specs.Refusals.{done}
 use Rattle.ring.specs.Refusals.{verdictFound, within}
 use Rattle.ring.specs.declared.Ring.{Ring}
@@ -13,9 +14,9 @@ use Rattle.ring.proofs.Checked.{valid-ring, valid-wider}
 use Rattle.steps.proofs.Reached.{benchAfter, step-after, reached-stands}
 use Rattle.demand3.specs.Faults.{FirstFault, Apart, TermsHold}
 use Rattle.demand3.specs.Verdict.{TermsKept}
-use Rattle.demand3.specs.Model.{State, Faulty, Terms}
+use Rattle.demand3.proofs.Model.{State, Faulty, Terms}
 use Rattle.demand3.proofs.Seat.{stays-faulty}
-use Rattle.demand3.proofs.View.{stateOf, givenOf, state-after}
+use Rattle.demand3.proofs.View.{stateOf, markedOf, state-after}
 use Rattle.demand3.proofs.Along.{along}
 use Rattle.demand3.proofs.Decided.{decides}
 use Rattle.demand3.proofs.Read.{to-faulty, from-faulty}
@@ -38,13 +39,13 @@ module _ (r : Ring) (room : ℕ) (v : Valid r room) where
 
 -- ---- a step before
 
-module _ (n : ℕ) (trail : List ℕ) (low : 2 ≤ n) (high : n ≤ 32) {b : Bench} (run : Reached n trail b) (m : Marks) where
+module _ (n : ℕ) (trail : List ℕ) (low : seatsLeast ≤ n) (high : n ≤ seatsMost) {b : Bench} (run : Reached n trail b) (m : Marks) where
   -- first faults are never forgotten
   remembered : {x f : ℕ} → FirstFault (b .ring) x f → FirstFault (benchAfter m b .ring) x f
   remembered {x} {f} y =
       let is = state-after (b .ring) (m .send) (m .receive) (along n trail low high run .empty) in
       from-faulty (benchAfter m b .ring)
-      (subst (λ (s : State). Faulty s x f) (sym is) (stays-faulty (givenOf (b .ring) (m .send) (m .receive)) (to-faulty (b .ring) y)))
+      (subst (λ (s : State). Faulty s x f) (sym is) (stays-faulty (markedOf (b .ring) (m .send) (m .receive)) (to-faulty (b .ring) y)))
 
   held : (t : ℕ) → TermsHold (benchAfter m b .ring) t → TermsHold (b .ring) t
   held t w = record {

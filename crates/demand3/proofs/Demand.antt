@@ -1,11 +1,13 @@
 -- Demand 3, over the engine: every run within the fault terms keeps its sound seats in agreement. Assumes nothing.
--- The argument: specs/Model has the rules over functions of the seats, Seat what a step does to one of them, Invariant what holds along a run; Moves
--- and the five kinds of step (Sent, Missed, Spoken, Removed, Idle) keep it, by Kept; Agrees reads agreement off it. View shows that the
--- engine's step is the model's, and Along follows a run; Tested and Decided are the verdict; Read and Before go back to the ring.
+-- The argument: Model has the ring over functions of the seats, Seat what a step does to one of them,
+-- Invariant what holds along a run; Moves and the five kinds of step (Sent, Missed, Spoken, Removed, Idle)
+-- keep it, by Kept; Agrees reads agreement off it. View shows that the engine's step is the model's, and
+-- Along follows a run; Tested and Decided are the verdict; Read and Before go back to the ring.
 use mathlib.Core.List.{List, [], _∷_}
 use mathlib.Core.Logic.{⊎-elim}
 use mathlib.Core.Path.{_≡_, sym, ap, _∙_}
 use Prim.Native.Nat.{ℕ, _+_, _≤_}
+use Rattle.limits.specs.Limits.{seatsLeast, seatsMost}
 use Rattle.ring.specs.Refusals.{verdictFound, within}
 use Rattle.steps.specs.Run.{Marks, Bench, toldOn, stepOn, freshBench, Reached, start, runOn}
 use Rattle.steps.proofs.Taken.{told-is}
@@ -23,7 +25,7 @@ step-reached : {n : ℕ} {trail : List ℕ} {b : Bench} → Reached n trail b �
 unfolding runOn
 step-reached run m = run-reached (m ∷ []) run
 
-module _ (n : ℕ) (trail : List ℕ) (low : 2 ≤ n) (high : n ≤ 32) where
+module _ (n : ℕ) (trail : List ℕ) (low : seatsLeast ≤ n) (high : n ≤ seatsMost) where
   -- a verdict `within` after a step, taken or refused, was one before it
   within-step : {b : Bench} → Reached n trail b → (m : Marks) → verdictFound (stepOn m b .ring) ≡ within → verdictFound (b .ring) ≡ within
   within-step {b} run m h =

@@ -7,7 +7,7 @@ use native.Mathlib.Omega.{arith}
 use lib.Dec.{eqb}
 use borrow.Author.Tests.{eq-eqb}
 use Rattle.lists.proofs.Tests.{both, same?}
-use Rattle.demand3.specs.Model.{State, Given, hold, Sound, Faulty}
+use Rattle.demand3.proofs.Model.{State, Marked, hold, Sound, Faulty}
 use Rattle.demand3.proofs.Seat.{role-blind, Still, still, differ, back-sound}
 use Rattle.demand3.proofs.Invariant.{Holds, Active, Latest, gone, alone, active, Pending, Low, NoneSound, Inv, soon}
 use Rattle.demand3.proofs.Moves.{Move, o, later, slot-seat, back-faulty, keeps-sound, out-step, alone-step, alone-ack, passed-step}
@@ -15,7 +15,7 @@ use Rattle.demand3.proofs.Moves.{carry, pending-step, after-quiet}
 
 module _ (m : Move) where
   open Move m using (given, last, bit, due, inv)
-  open Given given using (now)
+  open Marked given using (now)
   open State now using (n, time, set)
   open State (later m) using (set as set′)
 

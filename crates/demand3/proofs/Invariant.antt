@@ -1,6 +1,6 @@
--- The invariant of a run within the fault terms, over the present state alone: `last` is one more than the time of the latest first fault
--- (0: none), `bit` the acknowledgement of the sound seats, and `due` whether the latest faulty seat is still in their sets, its own slot
--- being still to come. Assumes nothing.
+-- The invariant of a run within the fault terms, over the present state alone: `last` is one more than the
+-- time of the latest first fault (0: none), `bit` the acknowledgement of the sound seats, and `due` whether
+-- the latest faulty seat is still in their sets, its own slot being still to come. Assumes nothing.
 use mathlib.Core.Bool.{Bool, true, false, not, _&&_, _||_}
 use mathlib.Core.Logic.{_⊎_, ⊎-elim}
 use mathlib.Core.Path.{_≡_}
@@ -8,9 +8,10 @@ use Prim.Native.Nat.{ℕ, suc, _+_, _%_, _≤_, _<_}
 use native.Mathlib.Omega.{arith}
 use lib.Dec.{eqb, ltb}
 use borrow.Author.Tests.{ltb-true, ltb-false}
+use Rattle.limits.specs.Limits.{seatsLeast}
 use Rattle.lists.proofs.Tests.{both, same?}
 use Rattle.demand3.proofs.Slots.{OwnSlot, own-slot}
-use Rattle.demand3.specs.Model.{State, Sound, Faulty}
+use Rattle.demand3.proofs.Model.{State, Sound, Faulty}
 
 module _ (s : State) where
   open State s using (n, time, set, ack, doubt)
@@ -29,8 +30,8 @@ module _ (s : State) where
   abbrev pub Ahead : ℕ → ℕ → Type 0
   Ahead f u = (k : ℕ) → f ≤ k → k < time → k % n ≡ u → ⊥
 
-  -- the latest faulty seat, with its first fault at f, while it is in and has others in its set: its bit is not that of the sound seats,
-  -- and each other that it has is sound and has still to speak
+  -- the latest faulty seat, with its first fault at f, while it is in and has others in its set: its bit is
+  -- not that of the sound seats, and each other that it has is sound and has still to speak
   pub record Active (f : ℕ) (bit due : Bool) (x : ℕ) : Type 0 where
     pub inside : set x x ≡ true
     pub kin : (u : ℕ) → u < n → set x u ≡ true → (u ≡ x → ⊥) → Sound s u × Ahead f u
@@ -79,7 +80,7 @@ module _ (s : State) where
     pub owner : k % n ≡ x
 
   pub record Inv (last : ℕ) (bit due : Bool) : Type 0 where
-    pub size : 2 ≤ n
+    pub size : seatsLeast ≤ n
     pub since : last ≤ time
     pub most : {x f : ℕ} → Faulty s x f → f < last
     pub top : 0 < last → Top last

@@ -8,7 +8,7 @@ use lib.Dec.{eqb}
 use borrow.Author.Tests.{eqb-true, eqb-false, eq-eqb, ne-eqb, not-true}
 use Rattle.lists.proofs.Tests.{both, and-true}
 use Rattle.lists.proofs.Found.{found}
-use Rattle.demand3.specs.Model.{State, Given, owner, step, Fresh, Sound, Faulty, Terms}
+use Rattle.demand3.proofs.Model.{State, Marked, owner, step, Fresh, Sound, Faulty, Terms}
 use Rattle.demand3.proofs.Seat.{Kind, sound, faulty, kind}
 use Rattle.demand3.proofs.Invariant.{Inv}
 use Rattle.demand3.proofs.Moves.{Move, slot-seat}
@@ -51,12 +51,12 @@ fresh-kept s new = record { last = 0; bit = true; due = false; inv = inv }
 
 -- ---- a sound seat that misses the owner, or none
 
-data Misses (t : Given) : Type 0 where
+data Misses (t : Marked) : Type 0 where
   one : (c : ℕ) → Sound (t .now) c → (c ≡ owner t → ⊥) → t .receive c ≡ true → Misses t
   none : ((p : ℕ) → Sound (t .now) p → (p ≡ owner t → ⊥) → t .receive p ≡ false) → Misses t
 
-module _ (t : Given) where
-  open Given t using (now, receive)
+module _ (t : Marked) where
+  open Marked t using (now, receive)
 
   abbrev marked : ℕ → Bool
   marked p = receive p && eqb (now .fault p) 0 && not (eqb p (owner t))
@@ -78,7 +78,7 @@ module _ (t : Given) where
 
 -- ---- the five kinds of step
 
-pub step-kept : (t : Given) → Kept (t .now) → Terms (step t) → Kept (step t)
+pub step-kept : (t : Marked) → Kept (t .now) → Terms (step t) → Kept (step t)
 step-kept t w terms = by-owner (kind (t .now) (owner t) (slot-seat m (t .now .time)))
   where
     m : Move

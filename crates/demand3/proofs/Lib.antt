@@ -1,5 +1,6 @@
 -- The files that prove demand 3.
 pub mod Slots
+pub mod Model
 pub mod Seat
 pub mod Invariant
 pub mod Moves

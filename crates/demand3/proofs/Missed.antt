@@ -1,4 +1,5 @@
--- A first fault by receiving: the sound seat c misses the sound owner, and drops it; the others hear, and keep c until its slot. Assumes nothing.
+-- A first fault by receiving: the sound seat c misses the sound owner, and drops it; the others hear, and
+-- keep c until its slot. Assumes nothing.
 use mathlib.Core.Bool.{true, false, false≢true, true≢false}
 use mathlib.Core.Logic.{⊎-elim}
 use mathlib.Core.Path.{_≡_, refl, sym, _∙_, ap}
@@ -7,15 +8,15 @@ use native.Mathlib.Omega.{arith}
 use lib.Dec.{eqb}
 use borrow.Author.Tests.{eq-eqb, ne-eqb}
 use Rattle.lists.proofs.Tests.{both, same?}
-use Rattle.demand3.specs.Model.{State, Given, acts, role, arrived, leaves, hold, Sound, Faulty}
-use Rattle.demand3.proofs.Seat.{role-act, act-other, act-owner, differ, back-sound}
+use Rattle.demand3.proofs.Model.{State, Marked, acts, role, hold, Sound, Faulty}
+use Rattle.demand3.proofs.Seat.{role-act, act-other, act-owner, differ, back-sound, DropsOwner, deaf-drops}
 use Rattle.demand3.proofs.Invariant.{Holds, Active, active, Pending, Inv}
 use Rattle.demand3.proofs.Moves.{Move, o, later, sees, Hears, hears, role-sound}
 use Rattle.demand3.proofs.Moves.{starts, calm, up, unmarked, still-sound, was-faulty, first-kin, after-first}
 
 module _ (m : Move) where
   open Move m using (given, inv)
-  open Given given using (now, send, receive)
+  open Marked given using (now, send, receive)
   open State now using (n, time, set)
   open State (later m) using (set as set′, fault as fault′)
 
@@ -58,21 +59,18 @@ module _ (m : Move) where
             let z : Faulty now x f = was-faulty m c sc yc y i in
             h .same x ∙ inv .holds was .others z ∙ cc (calm m c sc yc, ne-eqb (suc f) (suc time) (λ k. omega (arith, inv .since, inv .most z)))
 
-    silent : arrived given c ≡ false
-    silent = cc (es, sees m so so, mc)
-
-    stays : leaves given c ≡ false
-    stays = cc (silent, inv .holds sc .says, up m c sc yc)
+    w : DropsOwner given c
+    w = deaf-drops given c (cc (es, sees m so so, mc)) (inv .holds sc .says ∙ up m c sc yc)
 
     unseen : (u : ℕ) → set′ c u ≡ true → u ≡ o m → ⊥
-    unseen u e i = false≢true (sym (act-owner given c rc (cc silent) u i) ∙ e)
+    unseen u e i = false≢true (sym (act-owner given c rc (w .drop) u i) ∙ e)
 
     act : Active (later m) time true true c
     act = record {
-      inside = act-other given c rc stays c nc ∙ sees m sc sc;
-      kin = λ u hu e ne. first-kin m c sc yc u hu (sym (act-other given c rc stays u (unseen u e)) ∙ e) ne (unseen u e);
-      opposite = cc (rc, silent);
-      full = λ h {u} su ne. act-other given c rc stays u ne ∙ sees m sc (back-sound given su);
+      inside = act-other given c rc (w .stays) c nc ∙ sees m sc sc;
+      kin = λ u hu e ne. first-kin m c sc yc u hu (sym (act-other given c rc (w .stays) u (unseen u e)) ∙ e) ne (unseen u e);
+      opposite = cc (rc, w .low);
+      full = λ h {u} su ne. act-other given c rc (w .stays) u ne ∙ sees m sc (back-sound given su);
       past = λ h. absurd (true≢false h);
     }
 

@@ -1,6 +1,7 @@
--- What every kind of step shares: a seat that is out or alone stays so, first faults are spaced, and what is left to show that the invariant
--- is kept, by a step with a first fault and by one without. Assumes nothing.
--- Names, here and in the kinds of step: `so` and `sp` say that the owner and p are sound, `fx` that x is faulty, `e..` are equations.
+-- What every kind of step shares: a seat that is out or alone stays so, first faults are spaced, and what is
+-- left to show that the invariant is kept, by a step with a first fault and by one without. Assumes nothing.
+-- Names, here and in the kinds of step: `so` and `sp` say that the owner and p are sound, `fx` that x is
+-- faulty, `e..` are equations.
 use mathlib.Core.Bool.{Bool, true, false, not, false≢true, true≢false, _||_}
 use mathlib.Core.Logic.{_⊎_, inl, inr, ⊎-elim}
 use mathlib.Core.Path.{_≡_, refl, sym, _∙_, ap}
@@ -10,14 +11,14 @@ use native.Mathlib.Omega.{arith}
 use lib.Dec.{ltb}
 use borrow.Author.Tests.{ltb-true, ltb-false}
 use Rattle.lists.proofs.Tests.{both, same?}
-use Rattle.demand3.specs.Model.{State, Given, owns, acts, owner, role, arrived, hold, step, Sound, Faulty, Terms}
+use Rattle.demand3.proofs.Model.{State, Marked, owns, acts, owner, role, hold, step, Sound, Faulty, Terms}
 use Rattle.demand3.proofs.Seat.{Kind, sound, faulty, kind, differ, stays-faulty, unheld, held}
-use Rattle.demand3.proofs.Seat.{role-own, role-act, role-out, role-blind, still, own-set, act-nobody, agree-stays, agree-keeps, agree-acks}
+use Rattle.demand3.proofs.Seat.{role-own, role-act, role-out, role-blind, still, own-set, act-nobody, agree-row}
 use Rattle.demand3.proofs.Invariant.{Holds, Alone, Ahead, Active, Latest, gone, alone, active, Pending, Low, NoneSound, Top, Passed, Inv, soon, settle}
 
 -- a step within the fault terms, from a state of which the invariant holds
 pub record Move : Type 0 where
-  pub given : Given
+  pub given : Marked
   pub last : ℕ
   pub bit : Bool
   pub due : Bool
@@ -26,7 +27,7 @@ pub record Move : Type 0 where
 
 module _ (m : Move) where
   open Move m using (given, last, bit, due, inv, terms)
-  open Given given using (now)
+  open Marked given using (now)
   open State now using (n, time, set)
 
   -- the slot's owner, and the state after the step
@@ -99,14 +100,8 @@ module _ (m : Move) where
       other : (p ≡ o → ⊥) → Hears p
       other i =
           let r : role given p ≡ acts = role-sound so sp i in
-          let h : arrived given p ≡ true = cc (es, sees so so, heard i) in
-          let x : now .ack p ≡ bit = inv .holds sp .says in
-          let y : now .ack o ≡ bit = inv .holds so .says in
-          record {
-            same = act-nobody given p r (cc (h, x, y, agree-stays bit (now .doubt p))) (cc (h, x, y, agree-keeps bit (now .doubt p)));
-            acks = cc (r, h, x, y, agree-acks bit);
-            sure = λ k. cc r;
-          }
+          let w = agree-row given p (cc (es, sees so so, heard i)) (inv .holds sp .says ∙ sym (inv .holds so .says)) in
+          record { same = act-nobody given p r (cc w) (cc w); acks = cc (r, w); sure = λ k. cc r }
 
   -- ---- first faults
 
@@ -224,7 +219,8 @@ module _ (m : Move) where
     pub back-faulty : {x f : ℕ} → Faulty later x f → Faulty now x f
     back-faulty y = faulty-before y keeps-sound
 
-    -- what an active seat x goes on by: only the owner may leave its set, and its bit is still not that of the sound seats
+    -- what an active seat x goes on by: only the owner may leave its set, and its bit is still not that of
+    -- the sound seats
     pub record Carried (f x : ℕ) (bit′ due′ : Bool) : Type 0 where
       pub before : due′ ≡ true → suc time < f + n
       pub same : (u : ℕ) → (u ≡ o → ⊥) → set′ x u ≡ set x u

@@ -2,7 +2,7 @@
 use mathlib.Core.Bool.{true, false, not}
 use mathlib.Core.Logic.{_⊎_, inl, inr}
 use mathlib.Core.Path.{_≡_, sym, ap, _∙_}
-use Prim.Native.Nat.{ℕ, _-_, _^_, _<_}
+use Prim.Native.Nat.{ℕ, _^_, _<_}
 use native.Mathlib.Numerals.{add-one}
 use native.Mathlib.Omega.{arith}
 use lib.Dec.{eqb}
@@ -16,7 +16,7 @@ use Rattle.ring.specs.declared.Ring.{Ring}
 use Rattle.ring.specs.Valid.{Valid}
 use Rattle.demand3.specs.Faults.{SoundSeat, FirstFault}
 use Rattle.demand3.specs.Demand.{Agreement}
-use Rattle.demand3.specs.Model.{Sound, Faulty, Agrees}
+use Rattle.demand3.proofs.Model.{Sound, Faulty, Agrees}
 use Rattle.demand3.proofs.View.{stateOf}
 
 -- ---- sound and faulty seats, of the ring and of the state
@@ -50,7 +50,7 @@ module _ (r : Ring) where
       one-faulty = λ sp fx fy. a .one-faulty (to-sound sp) (to-faulty fx) (to-faulty fy);
       only-seats = λ sp. inside (sp .seat);
       left-by = λ sp fx k low high own. a .removed-by (to-sound sp) (to-faulty fx) k low (omega arith) own;
-      stays-till = λ sp fx. a .kept-till (to-sound sp) (to-faulty fx);
+      stays-till = λ sp fx ahead. a .kept-till (to-sound sp) (to-faulty fx) (λ k low high own. ahead k low (omega arith) own);
       gone-by = λ {x} fx h. gone x (fx .seat) (a .ended-by (to-faulty fx) (omega arith));
     }
       where

@@ -8,15 +8,15 @@ use native.Mathlib.Omega.{arith}
 use borrow.Author.Tests.{eq-eqb, ne-eqb}
 use Rattle.lists.proofs.Tests.{same?}
 use Rattle.demand3.proofs.Slots.{once}
-use Rattle.demand3.specs.Model.{State, Given, acts, role, speaks, arrived, leaves, drops, learns, hold, Sound, Faulty}
+use Rattle.demand3.proofs.Model.{State, Marked, acts, role, speaks, hold, Sound, Faulty}
 use Rattle.demand3.proofs.Seat.{role-own, role-act, own-set, act-other, act-owner, stays-faulty, differ, back-sound}
-use Rattle.demand3.proofs.Seat.{deaf-stays, deaf-drops, deaf-acks}
+use Rattle.demand3.proofs.Seat.{DropsOwner, deaf-drops, false-drops}
 use Rattle.demand3.proofs.Invariant.{Holds, Latest, gone, alone, active, Pending, Low, Inv, soon}
 use Rattle.demand3.proofs.Moves.{Move, o, later, sees, back-faulty, keeps-sound, out-step, alone-step, passed-now, early, carry, after-quiet}
 
 module _ (m : Move) where
   open Move m using (given, last, bit, due, inv, terms)
-  open Given given using (now)
+  open Marked given using (now)
   open State now using (n, time, set, ack, doubt)
   open State (later m) using (set as set′)
 
@@ -54,18 +54,9 @@ module _ (m : Move) where
       sure : doubt p ≡ false
       sure = inv .holds sp .sure (cc ep)
 
-      record Falls : Type 0 where
-        stays : leaves given p ≡ false
-        drop : drops given p ≡ true
-        low : learns given p ≡ false
-
-      falls : (speaks given ≡ false) ⊎ (ack (o m) ≡ false) → Falls
-      falls (inl e) = record { stays = cc (high, e); drop = cc e; low = cc e }
-      falls (inr e) = record {
-        stays = cc (high, sure, e, deaf-stays (arrived given p));
-        drop = cc (high, sure, e, deaf-drops (arrived given p));
-        low = cc (high, e, deaf-acks (arrived given p));
-      }
+      falls : (speaks given ≡ false) ⊎ (ack (o m) ≡ false) → DropsOwner given p
+      falls (inl e) = deaf-drops given p (cc e) high
+      falls (inr e) = false-drops given p e high sure
 
       r : role given p ≡ acts
       r =

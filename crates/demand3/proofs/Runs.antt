@@ -6,6 +6,7 @@ use native.Mathlib.Omega.{arith}
 use lib.Dec.{ltb}
 use lib.ListN.{getD}
 use borrow.Author.Tests.{ltb-true}
+use Rattle.limits.specs.Limits.{seatsLeast, seatsMost}
 use Rattle.lists.proofs.Counted.{getD-tab}
 use Rattle.seats.specs.Sets.{hasSeat}
 use Rattle.turn.specs.Turn.{sound}
@@ -19,11 +20,11 @@ use Rattle.turn.specs.declared.Seat.{Seat}
 use Rattle.demand3.specs.Faults.{SoundSeat, FirstFault, Apart}
 use Rattle.demand3.specs.Demand.{RunWithin}
 use Rattle.demand3.specs.Runs.{Run, fiveApart, fourApart, threeApart, alone, beforeOwn, afterOwn, beforeOut, afterOut}
-use Rattle.demand3.specs.Runs.{seatsIn, stepsOf, trailOfRun, lastRing, Outcome, outcomeOf, stated}
+use Rattle.demand3.specs.Runs.{seatsIn, stepsOf, trailOfRun, lastRing, Finish, finishOf, stated}
 use Rattle.demand3.proofs.Tested.{all-apart}
 
-pub as-stated : (x : Run) → outcomeOf x ≡ stated x
-unfolding outcomeOf runOn ringOf trailOf stepTold verdictFound firstFailing termsHold turnOf isRing everySeatStands freshRing zeroRing
+pub as-stated : (x : Run) → finishOf x ≡ stated x
+unfolding finishOf runOn ringOf trailOf stepTold verdictFound firstFailing termsHold turnOf isRing everySeatStands freshRing zeroRing
 as-stated fiveApart = refl
 as-stated fourApart = refl
 as-stated threeApart = refl
@@ -37,23 +38,23 @@ as-stated afterOut = refl
 
 module _ (x : Run) where
   pub is-n : lastRing x .n ≡ stated x .n
-  unfolding outcomeOf
-  is-n = ap (λ (o : Outcome). o .n) (as-stated x)
+  unfolding finishOf
+  is-n = ap (λ (f : Finish). f .n) (as-stated x)
 
   pub is-time : lastRing x .time ≡ stated x .time
-  unfolding outcomeOf
-  is-time = ap (λ (o : Outcome). o .time) (as-stated x)
+  unfolding finishOf
+  is-time = ap (λ (f : Finish). f .time) (as-stated x)
 
   pub is-found : verdictFound (lastRing x) ≡ stated x .verdict
-  unfolding outcomeOf
-  is-found = ap (λ (o : Outcome). o .verdict) (as-stated x)
+  unfolding finishOf
+  is-found = ap (λ (f : Finish). f .verdict) (as-stated x)
 
   pub is-seat : (p : ℕ) → ltb p (stated x .n) ≡ true → seatOf (lastRing x) p ≡ getD (stated x .seats) p noSeat
-  unfolding outcomeOf
+  unfolding finishOf
   is-seat p l =
       let h = ltb-true p (stated x .n) l in
       sym (getD-tab (lastRing x .n) (seatOf (lastRing x)) noSeat p (omega (arith, is-n)))
-      ∙ ap (λ (o : Outcome). getD (o .seats) p noSeat) (as-stated x)
+      ∙ ap (λ (f : Finish). getD (f .seats) p noSeat) (as-stated x)
 
   pub is-sound : (p : ℕ) → ltb p (stated x .n) ≡ true → sound (getD (stated x .seats) p noSeat) ≡ true → SoundSeat (lastRing x) p
   is-sound p l e = record { seat = let h = ltb-true p (stated x .n) l in omega (arith, is-n); never = ap sound (is-seat p l) ∙ e }
@@ -66,10 +67,10 @@ module _ (x : Run) where
 
   -- the first faults are n slots apart
   pub is-apart : 0 < stated x .n → stated x .nApart ≡ true → Apart (lastRing x .n) (lastRing x) (lastRing x .time)
-  unfolding outcomeOf
+  unfolding finishOf
   is-apart pos e =
       let h : lastRing x .n - 1 + 1 ≡ lastRing x .n = omega (arith, is-n) in
-      rw h at (all-apart (lastRing x) (lastRing x .time) (lastRing x .n - 1) (ap (λ (o : Outcome). o .nApart) (as-stated x) ∙ e))
+      rw h at (all-apart (lastRing x) (lastRing x .time) (lastRing x .n - 1) (ap (λ (f : Finish). f .nApart) (as-stated x) ∙ e))
 
-  pub is-within : 2 ≤ seatsIn x → seatsIn x ≤ 32 → stated x .verdict ≡ within → RunWithin (seatsIn x) trailOfRun (stepsOf x)
+  pub is-within : seatsLeast ≤ seatsIn x → seatsIn x ≤ seatsMost → stated x .verdict ≡ within → RunWithin (seatsIn x) trailOfRun (stepsOf x)
   is-within low high e = record { least = low; most = high; terms = is-found ∙ e }

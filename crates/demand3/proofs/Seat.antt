@@ -8,8 +8,12 @@ use lib.Dec.{eqb}
 use borrow.Author.Tests.{eqb-true, eqb-false, eq-eqb, ne-eqb}
 use Rattle.lists.proofs.Tests.{both}
 use Rattle.lists.proofs.Found.{found}
-use Rattle.demand3.specs.Model.{State, Given, selfGone, ownerGone, newAck, owns, acts, rests, owner, role, leaves, drops, hold, step}
-use Rattle.demand3.specs.Model.{Sound, Faulty, Terms}
+use Rattle.turn.specs.Table.{table}
+use Rattle.turn.specs.Turn.{faultAfter}
+use Rattle.turn.specs.declared.Removal.the-variants.{Nobody}
+use Rattle.turn.proofs.GoneLaws.{takesItself}
+use Rattle.demand3.proofs.Model.{State, Marked, owns, acts, rests, owner, role, arrived, row, leaves, drops, learns, hold, step}
+use Rattle.demand3.proofs.Model.{Sound, Faulty, Terms}
 
 -- a seat is sound or faulty
 pub data Kind (s : State) (p : ℕ) : Type 0 where
@@ -37,8 +41,8 @@ some-sound s = go (found (λ p. eqb (s .fault p) 0) (s .n))
 
 -- ---- roles, and the sets after a step
 
-module _ (t : Given) (p : ℕ) where
-  open Given t using (now)
+module _ (t : Marked) (p : ℕ) where
+  open Marked t using (now)
   open State now using (time, set, ack, doubt, fault)
 
   abbrev o : ℕ
@@ -90,16 +94,60 @@ module _ (t : Given) (p : ℕ) where
   pub act-self : role t p ≡ acts → leaves t p ≡ true → set′ p p ≡ false
   act-self r y = let b = eq-eqb p p refl in ⊎-elim (λ h. cc) (λ h. cc) (both (set p p))
 
+-- ---- the rows that the argument uses
+
+-- a seat that hears its own bit
+agreed : (x d : Bool) → table true x x d ≡ record { removed = Nobody; ack = true }
+agreed true d = refl
+agreed false d = refl
+
+-- a seat with its bit false, where the owner's is true
+above : (arrived d : Bool) → takesItself (table arrived true false d .removed) ≡ true
+above true d = refl
+above false d = refl
+
+module _ (t : Marked) (p : ℕ) where
+  open Marked t using (now)
+  open State now using (ack, doubt)
+
+  -- it hears its own bit: nobody goes, and its bit is true
+  pub agree-row : arrived t p ≡ true → ack p ≡ ack (owner t) → row t p ≡ record { removed = Nobody; ack = true }
+  agree-row r e = cc (agreed (ack p) (doubt p))
+
+  -- its bit is false, the owner's true: it goes, whether it hears or not
+  pub low-leaves : ack (owner t) ≡ true → ack p ≡ false → leaves t p ≡ true
+  low-leaves b e = cc (above (arrived t p) (doubt p))
+
+  -- the owner goes and the seat stays, its bit false
+  pub record DropsOwner : Type 0 where
+    pub stays : leaves t p ≡ false
+    pub drop : drops t p ≡ true
+    pub low : learns t p ≡ false
+
+  -- so it is where its bit is true and it hears nothing
+  pub deaf-drops : arrived t p ≡ false → ack p ≡ true → DropsOwner
+  deaf-drops r e = record { stays = cc; drop = cc; low = cc }
+
+  -- and where its bit is true, it has no doubt, and the owner's bit is false
+  pub false-drops : ack (owner t) ≡ false → ack p ≡ true → doubt p ≡ false → DropsOwner
+  false-drops b e d =
+      ⊎-elim (λ r. record { stays = cc; drop = cc; low = cc }) (λ r. deaf-drops r e) (both (arrived t p))
+
 -- ---- first faults
 
 pub differ : {s : State} {x f p : ℕ} → Faulty s x f → Sound s p → x ≡ p → ⊥
 differ {s} x p i = omega (arith, ap (s .fault) i, x .since, p .clean)
 
-module _ (t : Given) {p : ℕ} where
-  open Given t using (now)
+-- one that is kept is never changed
+first-kept : (held : Bool) (since fault f : ℕ) → fault ≡ suc f → faultAfter held since fault ≡ suc f
+first-kept true since fault f e = rw (ne-eqb fault 0 (omega arith)) e
+first-kept false since fault f e = e
+
+module _ (t : Marked) {p : ℕ} where
+  open Marked t using (now)
 
   pub stays-faulty : {f : ℕ} → Faulty now p f → Faulty (step t) p f
-  stays-faulty x = record { seat = x .seat; since = cc (x .since) }
+  stays-faulty {f} x = record { seat = x .seat; since = first-kept (hold t p) (suc (now .time)) (now .fault p) f (x .since) }
 
   pub back-sound : Sound (step t) p → Sound now p
   back-sound x = go (kind now p (x .seat))
@@ -115,38 +163,5 @@ module _ (t : Given) {p : ℕ} where
   held h x = record { seat = x .seat; since = cc (x .clean) }
 
 -- the terms held before the step too
-pub back-terms : (t : Given) → Terms (step t) → Terms (t .now)
+pub back-terms : (t : Marked) → Terms (step t) → Terms (t .now)
 back-terms t w = record { apart = λ x y. w .apart (stays-faulty t x) (stays-faulty t y) }
-
--- ---- the table at the rows that the argument uses
-
--- own bit and the bit heard agree
-pub agree-stays : (x d : Bool) → selfGone true x x d ≡ false
-agree-stays true d = refl
-agree-stays false d = refl
-
-pub agree-keeps : (x d : Bool) → ownerGone true x x d ≡ false
-agree-keeps true d = refl
-agree-keeps false d = refl
-
-pub agree-acks : (x : Bool) → newAck true x x ≡ true
-agree-acks true = refl
-agree-acks false = refl
-
--- the bit is true, own ack false
-pub low-leaves : (r d : Bool) → selfGone r true false d ≡ true
-low-leaves true d = refl
-low-leaves false d = refl
-
--- the bit is false or does not arrive, own ack true, no doubt
-pub deaf-stays : (r : Bool) → selfGone r false true false ≡ false
-deaf-stays true = refl
-deaf-stays false = refl
-
-pub deaf-drops : (r : Bool) → ownerGone r false true false ≡ true
-deaf-drops true = refl
-deaf-drops false = refl
-
-pub deaf-acks : (r : Bool) → newAck r false true ≡ false
-deaf-acks true = refl
-deaf-acks false = refl

@@ -6,14 +6,14 @@ use Prim.Native.Nat.{ℕ, suc}
 use native.Mathlib.Omega.{arith}
 use Rattle.lists.proofs.Tests.{same?}
 use Rattle.demand3.proofs.Slots.{OwnSlot, own-slot, once}
-use Rattle.demand3.specs.Model.{State, Given, owns, acts, role, arrived, leaves, hold, Sound, Faulty}
-use Rattle.demand3.proofs.Seat.{SomeSound, some, none, some-sound, role-own, role-act, own-set, act-other, act-owner, differ, back-sound}
+use Rattle.demand3.proofs.Model.{State, Marked, owns, acts, role, hold, Sound, Faulty}
+use Rattle.demand3.proofs.Seat.{SomeSound, some, none, some-sound, role-own, role-act, own-set, act-other, act-owner, differ, back-sound, DropsOwner, deaf-drops}
 use Rattle.demand3.proofs.Invariant.{Holds, Active, active, Low, NoneSound, Inv}
 use Rattle.demand3.proofs.Moves.{Move, o, later, sees, starts, calm, up, was-faulty, first-kin, after-first}
 
 module _ (m : Move) where
   open Move m using (given, inv)
-  open Given given using (now, send)
+  open Marked given using (now, send)
   open State now using (n, time, set)
   open State (later m) using (set as set′)
 
@@ -28,7 +28,7 @@ module _ (m : Move) where
     new = starts m (o m) so yo
 
     holds : (p : ℕ) → Sound (later m) p → Holds (later m) (suc time) false false p
-    holds p sp = record { friends = friends; others = others; says = cc (r, silent); sure = λ h. cc r }
+    holds p sp = record { friends = friends; others = others; says = cc (r, w .low); sure = λ h. cc r }
       where
         ne : p ≡ o m → ⊥
         ne i = differ new sp (sym i)
@@ -39,20 +39,17 @@ module _ (m : Move) where
         r : role given p ≡ acts
         r = role-act given p ne (sees m was was) (sees m was so)
 
-        silent : arrived given p ≡ false
-        silent = cc (es, sees m so so)
-
-        stays : leaves given p ≡ false
-        stays = cc (silent, inv .holds was .says, up m (o m) so yo)
+        w : DropsOwner given p
+        w = deaf-drops given p (cc (es, sees m so so)) (inv .holds was .says ∙ up m (o m) so yo)
 
         friends : {q : ℕ} → Sound (later m) q → set′ p q ≡ true
-        friends {q} sq = act-other given p r stays q (λ i. differ new sq (sym i)) ∙ sees m was (back-sound given sq)
+        friends {q} sq = act-other given p r (w .stays) q (λ i. differ new sq (sym i)) ∙ sees m was (back-sound given sq)
 
         others : {x f : ℕ} → Faulty (later m) x f → set′ p x ≡ false
         others {x} y =
             ⊎-elim
-            (λ i. act-owner given p r (cc silent) x i)
-            (λ i. act-other given p r stays x i ∙ inv .holds was .others (was-faulty m (o m) so yo y i) ∙ cc (calm m (o m) so yo))
+            (λ i. act-owner given p r (w .drop) x i)
+            (λ i. act-other given p r (w .stays) x i ∙ inv .holds was .others (was-faulty m (o m) so yo y i) ∙ cc (calm m (o m) so yo))
             (same? x (o m))
 
     -- the owner itself does not know: all that it has in its set have still to speak

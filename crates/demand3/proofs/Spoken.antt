@@ -6,16 +6,16 @@ use Prim.Native.Nat.{ℕ, suc, _+_, _<_}
 use native.Mathlib.Omega.{arith}
 use Rattle.lists.proofs.Tests.{both, same?}
 use Rattle.demand3.proofs.Slots.{once}
-use Rattle.demand3.specs.Model.{State, Given, acts, role, arrived, leaves, drops, learns, hold, Sound, Faulty}
+use Rattle.demand3.proofs.Model.{State, Marked, acts, role, arrived, leaves, hold, Sound, Faulty}
 use Rattle.demand3.proofs.Seat.{role-own, role-act, role-blind, Still, still, act-other, act-owner, act-self, differ, back-sound}
-use Rattle.demand3.proofs.Seat.{low-leaves, deaf-stays, deaf-drops, deaf-acks}
+use Rattle.demand3.proofs.Seat.{low-leaves, DropsOwner, deaf-drops, false-drops}
 use Rattle.demand3.proofs.Invariant.{Holds, Active, Latest, gone, alone, active, Pending, Inv}
 use Rattle.demand3.proofs.Moves.{Move, o, later, sees, back-faulty, Hears, hears, role-sound, out-step, alone-step, alone-ack, passed-step}
 use Rattle.demand3.proofs.Moves.{carry, pending-step, after-quiet}
 
 module _ (m : Move) where
   open Move m using (given, last, bit, due, inv)
-  open Given given using (now, send, receive)
+  open Marked given using (now, send, receive)
   open State now using (n, time, set, ack, doubt)
   open State (later m) using (set as set′, ack as ack′)
 
@@ -24,7 +24,7 @@ module _ (m : Move) where
     quiet p sp =
         ⊎-elim
         (λ i. let r = role-own given p i (sees m sp sp) in cc (r, es))
-        (λ i. let r = role-sound m so sp i in cc (r, heard p sp i))
+        (λ i. let r = role-sound m so sp i in cc (r, es, sees m so so, heard p sp i))
         (same? p (o m))
 
     holds : (p : ℕ) → Sound (later m) p → Holds (later m) last true due p
@@ -75,10 +75,10 @@ module _ (m : Move) where
         leave : set x (o m) ≡ true → leaves given x ≡ true → Next
         leave e k = gone (act-self given x (role-act given x nx (y .inside) e) k)
 
-        drop : set x (o m) ≡ true → due ≡ false → leaves given x ≡ false → drops given x ≡ true → learns given x ≡ false → Next
-        drop e ep k d b =
+        drop : set x (o m) ≡ true → due ≡ false → DropsOwner given x → Next
+        drop e ep d =
             let r : role given x ≡ acts = role-act given x nx (y .inside) e in
-            stay ep (act-other given x r k) (act-owner given x r d (o m) refl) (cc (r, b))
+            stay ep (act-other given x r (d .stays)) (act-owner given x r (d .drop) (o m) refl) (cc (r, d .low))
 
         says : ack (o m) ≡ bit
         says = inv .holds so .says
@@ -90,15 +90,11 @@ module _ (m : Move) where
         cases false false true d r ei ep ec ed er =
             let z : Still given x = still given x (role-blind given x nx ei) in
             stay ep (λ u ne. z .set u) (z .set (o m) ∙ ei) (z .ack ∙ y .opposite ∙ ap not ec)
-        cases true p true d r ei ep ec ed er = leave ei (cc (low-leaves (arrived given x) (doubt x), says, y .opposite))
+        cases true p true d r ei ep ec ed er = leave ei (low-leaves given x (says ∙ ec) (y .opposite ∙ ap not ec))
         cases true true false d r ei ep ec ed er = absurd (false≢true (sym ec ∙ inv .pend ep .heard))
         cases true false false true true ei ep ec ed er = leave ei (cc (says, y .opposite))
-        cases true false false true false ei ep ec ed er = drop ei ep (cc (y .opposite)) (cc) (cc)
-        cases true false false false r ei ep ec ed er =
-            drop ei ep
-            (cc (deaf-stays (arrived given x), says, y .opposite))
-            (cc (deaf-drops (arrived given x), says, y .opposite))
-            (cc (deaf-acks (arrived given x), says, y .opposite))
+        cases true false false true false ei ep ec ed er = drop ei ep (deaf-drops given x er (y .opposite ∙ ap not ec))
+        cases true false false false r ei ep ec ed er = drop ei ep (false-drops given x (says ∙ ec) (y .opposite ∙ ap not ec) ed)
 
       latest : Latest now f bit due x → Next
       latest (gone e) = gone (out-step m x e)

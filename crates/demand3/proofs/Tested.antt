@@ -10,7 +10,7 @@ use Rattle.lists.specs.Counted.{countBelow, allBelow}
 use Rattle.lists.proofs.Tests.{both, and-true, and-of, all-at, all-from}
 use Rattle.lists.proofs.Found.{two-counted, counted-two}
 use Rattle.ring.specs.Ring.{seatOf}
-use Rattle.terms.specs.Terms.{faultyBy, distance, apartBy, termsHold}
+use Rattle.terms.specs.Terms.{faultyBy, distance, apartBy, soundLeast, termsHold}
 use Rattle.ring.specs.declared.Ring.{Ring}
 use Rattle.demand3.specs.Faults.{FirstFault, Apart, SoundAfter, TwoSound, TermsHold}
 
@@ -24,6 +24,11 @@ apart-if true a b d h = refl
 apart-if false false b d h = refl
 apart-if false true false d h = refl
 apart-if false true true d h = h refl refl refl
+
+-- ---- so far apart, and so no less far
+
+pub closer : {a b : ℕ} {r : Ring} {t : ℕ} → Apart a r t → b ≤ a → Apart b r t
+closer w l = record { spaced = λ fx fy ne h k. omega (arith, w .spaced fx fy ne h k) }
 
 module _ (r : Ring) (t : ℕ) where
   -- ---- faulty by the step
@@ -47,7 +52,7 @@ module _ (r : Ring) (t : ℕ) where
   sound-after p h e = record {
     seat = h;
     later = λ {f} y.
-        ⊎-elim (λ l. absurd (false≢true (sym e ∙ fault-faulty y (leb-true f t l)))) (λ l. leb-false f t l) (both (leb f t));
+        ⊎-elim (λ l. absurd (false≢true (sym e ∙ fault-faulty y (leb-true f t l)))) (λ l. omega (arith, leb-false f t l)) (both (leb f t));
   }
 
   after-sound : (p : ℕ) → SoundAfter r t p → faulty p ≡ false
@@ -96,7 +101,7 @@ module _ (r : Ring) (t : ℕ) where
   abbrev sound : ℕ → Bool
   sound p = not (faulty p)
 
-  counted-sound : 2 ≤ countBelow (r .n) sound → TwoSound r t
+  counted-sound : soundLeast ≤ countBelow (r .n) sound → TwoSound r t
   counted-sound h =
       let k = counted-two sound (r .n) h in
       record {
@@ -107,7 +112,7 @@ module _ (r : Ring) (t : ℕ) where
         other-sound = sound-after (k .1) (k .3) (not-true _ (k .5));
       }
 
-  sound-counted : TwoSound r t → 2 ≤ countBelow (r .n) sound
+  sound-counted : TwoSound r t → soundLeast ≤ countBelow (r .n) sound
   sound-counted k =
       let a : sound (k .one) ≡ true = ap not (after-sound (k .one) (k .one-sound)) in
       let b : sound (k .other) ≡ true = ap not (after-sound (k .other) (k .other-sound)) in
@@ -123,9 +128,9 @@ module _ (r : Ring) (t : ℕ) where
   pub hold-terms : termsHold (r .n) (r .faults) t ≡ true → TermsHold r t
   unfolding termsHold
   hold-terms h =
-      let k = and-true (allBelow (r .n) (λ p. allBelow (r .n) (apart (r .n) p))) (leb 2 (countBelow (r .n) sound)) h in
-      record { apart = all-apart (r .n) (k .0); sound = counted-sound (leb-true _ _ (k .1)) }
+      let k = and-true (allBelow (r .n) (λ p. allBelow (r .n) (apart (r .n) p))) (leb soundLeast (countBelow (r .n) sound)) h in
+      record { apart = closer (all-apart (r .n) (k .0)) (omega arith); sound = counted-sound (leb-true _ _ (k .1)) }
 
   pub terms-hold : TermsHold r t → termsHold (r .n) (r .faults) t ≡ true
   unfolding termsHold
-  terms-hold w = and-of (apart-all (r .n) (w .apart)) (le-leb 2 (countBelow (r .n) sound) (sound-counted (w .sound)))
+  terms-hold w = and-of (apart-all (r .n) (closer (w .apart) (omega arith))) (le-leb soundLeast (countBelow (r .n) sound) (sound-counted (w .sound)))

@@ -1,4 +1,5 @@
--- The fault terms are tight in their distance, agreement needs the distance alone, and a faulty seat may stay in its own set alone. Assumes nothing.
+-- The fault terms are tight in their distance, agreement needs the distance alone, and a faulty seat may stay
+-- in its own set alone. Assumes nothing.
 use mathlib.Core.Bool.{true, false, not, false≢true}
 use mathlib.Core.Path.{_≡_, refl, sym, ap, _∙_}
 use Prim.Native.Nat.{ℕ, zero, suc}
@@ -14,6 +15,7 @@ use Rattle.demand3.specs.Faults.{SoundSeat, SoundAfter}
 use Rattle.demand3.specs.Demand.{Agreement}
 use Rattle.demand3.specs.Runs.{fourApart, threeApart, alone, lastRing}
 use Rattle.demand3.specs.Tight.{Tight, ApartIsEnough, AloneStays}
+use Rattle.demand3.proofs.Tested.{closer}
 use Rattle.demand3.proofs.Demand.{agreement-of}
 use Rattle.demand3.proofs.Runs.{is-n, is-time, is-seat, is-sound, is-fault, is-in, is-apart, is-within}
 
@@ -40,7 +42,7 @@ module _ where
 
 pub tight : Tight
 tight = record {
-  two-left = record { apart = is-apart fourApart (omega arith) refl; broken = apart-sets };
+  two-left = record { apart = closer (is-apart fourApart (omega arith) refl) (omega arith); broken = apart-sets };
   two-sound = record {
     one = 1;
     other = 2;
@@ -48,7 +50,7 @@ tight = record {
     one-sound = never-faulty r 1 _ one;
     other-sound = never-faulty r 2 _ two;
   };
-  one-left = record { apart = is-apart threeApart (omega arith) refl; broken = out-of-its-own };
+  one-left = record { apart = closer (is-apart threeApart (omega arith) refl) (omega arith); broken = out-of-its-own };
   one-sound = last;
   no-other = no-other;
 }

@@ -1,29 +1,28 @@
 -- The engine's ring read as a state of the model, and the engine's step as the model's. Assumes nothing.
-use mathlib.Core.Bool.{Bool, true, false, not, _&&_, and-comm}
+use mathlib.Core.Bool.{Bool, false, not, _&&_}
 use mathlib.Core.Logic.{⊎-elim}
-use mathlib.Core.Path.{_≡_, refl, sym, ap, _∙_, subst}
-use Prim.Native.Nat.{ℕ, zero, suc, _≤_}
+use mathlib.Core.Path.{_≡_, sym, ap, _∙_, subst}
+use Prim.Native.Nat.{ℕ, suc, _+_, _≤_}
 use native.Mathlib.Numerals.{add-one}
-use native.Mathlib.Omega.{arith}
 use lib.Dec.{eqb, ltb}
-use borrow.Author.Tests.{ne-eqb, ltb-true, ltb-false}
+use borrow.Author.Tests.{ltb-true, ltb-false}
 use Rattle.lists.proofs.Tests.{both}
 use Rattle.seats.specs.Sets.{hasSeat}
 use Rattle.seats.proofs.Sets.{nobody-in}
-use Rattle.ring.specs.Ring.{seatOf}
+use Rattle.ring.specs.Ring.{seatOf, ownerOf}
 use Rattle.turn.specs.declared.table.Row.{Row}
 use Rattle.turn.specs.Table.{table, arrived, bitOf, decided}
-use Rattle.turn.specs.Turn.{viewOf, misses, faultAfter, ownerTurn, otherTurn, turnOf}
+use Rattle.turn.specs.Turn.{viewOf, isMissed, faultAfter, ownerTurn, otherTurn, turnOf}
 use Rattle.ring.specs.Step.{slotOf, ringAfter}
 use Rattle.ring.specs.declared.Ring.{Ring}
 use Rattle.turn.specs.declared.Seat.{Seat}
 use Rattle.turn.specs.declared.Slot.{Slot}
 use Rattle.turn.proofs.GoneLaws.{takesItself, takesOwner, gone-has}
-use Rattle.steps.proofs.Seen.{speaks-is, view-table}
+use Rattle.steps.proofs.Seen.{view-table, view-missed}
 use Rattle.turn.proofs.TurnLaws.{turn-elim}
 use Rattle.steps.proofs.After.{seat-after, seat-beyond}
-use Rattle.demand3.specs.Model.{State, Given, selfGone, ownerGone, newAck, first, owns, acts, rests, role}
-use Rattle.demand3.specs.Model.{speaks, leaves, drops, learns, hold, left, step}
+use Rattle.demand3.proofs.Model.{State, Marked, owns, acts, rests, role}
+use Rattle.demand3.proofs.Model.{speaks, row, learns, hold, left, step}
 use Rattle.demand3.proofs.Seat.{role-own, role-act, role-out, role-blind, Still, still}
 
 abbrev pub stateOf : Ring → State
@@ -37,42 +36,13 @@ stateOf r = record {
 }
 
 -- a step of it with its marks
-abbrev pub givenOf : Ring → Bool → ℕ → Given
-givenOf r send receive = record { now = stateOf r; send = send; receive = hasSeat receive }
-
--- ---- the table
-
--- whom a row removes, and its new ack
-abbrev says : Row → Bool × Bool × Bool
-says x = (takesItself (x .removed), takesOwner (x .removed), x .ack)
-
--- the engine's table is the model's
-rows : (arrived bit ack doubt : Bool)
-    → says (table arrived bit ack doubt) ≡ (selfGone arrived bit ack doubt, ownerGone arrived bit ack doubt, newAck arrived bit ack)
-rows true true true doubt = refl
-rows true true false doubt = refl
-rows true false true true = refl
-rows true false true false = refl
-rows true false false doubt = refl
-rows false bit true doubt = refl
-rows false bit false doubt = refl
-
--- ---- first faults
-
-first-is : (held : Bool) (time fault : ℕ) → faultAfter held time fault ≡ first held time fault
-first-is true time zero = add-one time
-first-is false time zero = refl
-first-is true time (suc f) = rw (ne-eqb (suc f) 0 (omega arith))
-first-is false time (suc f) = refl
-
-first-none : (time fault : ℕ) → first false time fault ≡ fault
-first-none time zero = refl
-first-none time (suc f) = refl
+abbrev pub markedOf : Ring → Bool → ℕ → Marked
+markedOf r send receive = record { now = stateOf r; send = send; receive = hasSeat receive }
 
 -- ---- one seat
 
 -- the seat s is seat p of the model after the step
-record Matches (t : Given) (p : ℕ) (s : Seat) : Type 0 where
+record Matches (t : Marked) (p : ℕ) (s : Seat) : Type 0 where
   set : (q : ℕ) → hasSeat (s .set) q ≡ step t .set p q
   ack : s .ack ≡ step t .ack p
   doubt : s .doubt ≡ step t .doubt p
@@ -82,8 +52,16 @@ module _ (r : Ring) (send : Bool) (receive : ℕ) where
   abbrev slot : Slot
   slot = slotOf r send receive
 
-  abbrev t : Given
-  t = givenOf r send receive
+  abbrev t : Marked
+  t = markedOf r send receive
+
+  -- what the owner has to say
+  abbrev bit : Bool
+  bit = seatOf r (ownerOf r) .ack
+
+  -- where as much took hold, the first fault is the same
+  first-is : {held : Bool} (mark : Bool) (fault : ℕ) → held ≡ mark → faultAfter mark (r .time + 1) fault ≡ faultAfter held (suc (r .time)) fault
+  first-is mark fault e = rw (e, add-one (r .time))
 
   module _ (p : ℕ) where
     abbrev s : Seat
@@ -92,12 +70,7 @@ module _ (r : Ring) (send : Bool) (receive : ℕ) where
     stays : role t p ≡ rests → Matches t p s
     stays e =
         let z : Still t p = still t p e in
-        record {
-          set = λ q. sym (z .set q);
-          ack = sym (z .ack);
-          doubt = sym (z .doubt);
-          fault = sym (ap (λ (x : Bool). first x (r .time) (s .fault)) (z .hold) ∙ first-none (r .time) (s .fault));
-        }
+        record { set = λ q. sym (z .set q); ack = sym (z .ack); doubt = sym (z .doubt); fault = first-is false (s .fault) (z .hold) }
 
     owning : role t p ≡ owns → Matches t p (ownerTurn slot s .seat)
     owning o =
@@ -106,33 +79,27 @@ module _ (r : Ring) (send : Bool) (receive : ℕ) where
           set = λ q. cc;
           ack = cc;
           doubt = cc;
-          fault = first-is send (r .time) (s .fault) ∙ ap (λ (x : Bool). first x (r .time) (s .fault)) (sym h);
+          fault = first-is send (s .fault) h;
         }
 
-    row : says (table (arrived (viewOf slot p)) (bitOf (viewOf slot p)) (s .ack) (s .doubt)) ≡ (leaves t p, drops t p, learns t p)
-    row =
-        ap says
-        (view-table (slot .speaks) (hasSeat receive p) (slot .bit) (s .ack) (s .doubt)
-        ∙ ap (λ (x : Bool). table (x && not (hasSeat receive p)) (slot .bit) (s .ack) (s .doubt)) (speaks-is r send receive))
-        ∙ rows (speaks t && not (hasSeat receive p)) (slot .bit) (s .ack) (s .doubt)
+    told : table (arrived (viewOf slot p)) (bitOf (viewOf slot p)) (s .ack) (s .doubt) ≡ row t p
+    told = view-table (speaks t) (hasSeat receive p) bit (s .ack) (s .doubt)
 
     acting : role t p ≡ acts → Matches t p (otherTurn slot p s .seat)
     acting o =
-        let h : hold t p ≡ (hasSeat receive p && speaks t) = cc in
+        let h : hold t p ≡ (speaks t && hasSeat receive p) = cc in
         let k : step t .ack p ≡ learns t p = cc in
         record {
           set = λ q.
               let e : step t .set p q ≡ left t p q = cc in
               gone-has (s .set) p (slot .owner) q (decided (viewOf slot p) (s .ack) (s .doubt) .removal)
               ∙ ap
-              (λ (x : Bool × Bool × Bool). hasSeat (s .set) q && not (x .0 && eqb q p) && not (x .1 && eqb q (slot .owner)))
-              row
+              (λ (x : Row). hasSeat (s .set) q && not (takesItself (x .removed) && eqb q p) && not (takesOwner (x .removed) && eqb q (slot .owner)))
+              told
               ∙ sym e;
-          ack = ap (λ (x : Bool × Bool × Bool). x .2) row ∙ sym k;
+          ack = ap (λ (x : Row). x .ack) told ∙ sym k;
           doubt = cc;
-          fault = first-is (misses slot p) (r .time) (s .fault)
-              ∙ ap (λ (x : Bool). first x (r .time) (s .fault))
-              (ap (λ (x : Bool). x && hasSeat receive p) (speaks-is r send receive) ∙ and-comm (speaks t) (hasSeat receive p) ∙ sym h);
+          fault = first-is (isMissed (viewOf slot p)) (s .fault) (h ∙ sym (view-missed (speaks t) (hasSeat receive p) bit));
         }
 
     matches : Matches t p (turnOf slot p s .seat)
@@ -156,19 +123,19 @@ module _ (r : Ring) (send : Bool) (receive : ℕ) (empty : EmptyBeyond r) where
   pub empty-after : EmptyBeyond later
   empty-after p h = ap (λ (s : Seat). s .set) (seat-beyond r (slotOf r send receive) p h) ∙ empty p h
 
-  matches-after : (p : ℕ) → Matches (givenOf r send receive) p (seatOf later p)
+  matches-after : (p : ℕ) → Matches (markedOf r send receive) p (seatOf later p)
   matches-after p =
       ⊎-elim
       (λ e.
-      subst (Matches (givenOf r send receive) p) (sym (seat-after r (slotOf r send receive) p (ltb-true p (r .n) e)))
+      subst (Matches (markedOf r send receive) p) (sym (seat-after r (slotOf r send receive) p (ltb-true p (r .n) e)))
       (matches r send receive p))
       (λ e.
       let h = ltb-false p (r .n) e in
-      let o = role-out (givenOf r send receive) p (ap (λ (x : ℕ). hasSeat x p) (empty p h) ∙ nobody-in p) in
-      subst (Matches (givenOf r send receive) p) (sym (seat-beyond r (slotOf r send receive) p h)) (stays r send receive p o))
+      let o = role-out (markedOf r send receive) p (ap (λ (x : ℕ). hasSeat x p) (empty p h) ∙ nobody-in p) in
+      subst (Matches (markedOf r send receive) p) (sym (seat-beyond r (slotOf r send receive) p h)) (stays r send receive p o))
       (both (ltb p (r .n)))
 
-  pub state-after : stateOf later ≡ step (givenOf r send receive)
+  pub state-after : stateOf later ≡ step (markedOf r send receive)
   state-after = λ i. record {
     n = r .n;
     time = add-one (r .time) i;

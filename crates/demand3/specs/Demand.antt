@@ -1,5 +1,5 @@
--- Demand 3 of the order, over the engine: what the sound seats hold, and when a faulty seat is gone, after every step of a run within the
--- fault terms.
+-- Demand 3 of the order, over the engine: what the sound seats hold, and when a faulty seat is gone, after
+-- every step of a run within the fault terms.
 use mathlib.Core.Bool.{true, false}
 use mathlib.Core.List.{List, _++_}
 use mathlib.Core.Logic.{_⊎_}
@@ -25,7 +25,8 @@ pub record Agreement (r : Ring) : Type 0 where
   pub one-faulty : {p x y t u : ℕ} → SoundSeat r p → FirstFault r x t → FirstFault r y u
       → hasSeat (seatOf r p .set) x ≡ true → hasSeat (seatOf r p .set) y ≡ true → x ≡ y
   pub only-seats : {p : ℕ} → SoundSeat r p → seatOf r p .set < 2 ^ r .n
-  -- a seat x whose first fault is in slot t is in no sound seat's set once a slot k of its own, from t on, has been stepped
+  -- a seat x whose first fault is in slot t is in no sound seat's set once a slot k of its own, from t on,
+  -- has been stepped
   pub left-by : {p x t : ℕ} → SoundSeat r p → FirstFault r x t → (k : ℕ) → t ≤ k → k < r .time → k % r .n ≡ x
       → hasSeat (seatOf r p .set) x ≡ false
   -- and not before: with no such slot stepped it is in their sets
@@ -36,7 +37,8 @@ pub record Agreement (r : Ring) : Type 0 where
 
 -- ---- a run
 
--- a fresh ring of 2 to 32 seats, any list of steps (one that is refused changes nothing), and the verdict `within` on the last ring
+-- a fresh ring of 2 to 32 seats, any list of steps (one that is refused changes nothing), and the verdict
+-- `within` on the last ring
 pub record RunWithin (n : ℕ) (trail : List ℕ) (steps : List Marks) : Type 0 where
   pub least : seatsLeast ≤ n
   pub most : n ≤ seatsMost

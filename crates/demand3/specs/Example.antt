@@ -8,7 +8,8 @@ use Rattle.demand3.specs.Faults.{SoundSeat, FirstFault}
 use Rattle.demand3.specs.Demand.{Agreement, RunWithin}
 use Rattle.demand3.specs.Runs.{fiveApart, beforeOwn, seatsIn, stepsOf, trailOfRun, lastRing}
 
--- two sound seats, two faults, each of them followed by an own slot and by n slots; and, earlier, a faulty seat that is still in the sets
+-- two sound seats, two faults, each of them followed by an own slot and by n slots; and, earlier, a faulty
+-- seat that is still in the sets
 pub record Example : Type 0 where
   pub within : RunWithin (seatsIn fiveApart) trailOfRun (stepsOf fiveApart)
   pub one-sound : SoundSeat (lastRing fiveApart) 0

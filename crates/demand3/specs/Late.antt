@@ -12,7 +12,8 @@ use Rattle.demand3.specs.Demand.{Agreement, RunWithin}
 use Rattle.steps.specs.Run.{quiet}
 use Rattle.demand3.specs.Runs.{Run, beforeOwn, afterOwn, beforeOut, afterOut, seatsIn, stepsOf, trailOfRun, lastRing}
 
--- where k is the first own slot of seat x from its first fault t on, x is in a sound seat's set up to slot k, and no longer
+-- where k is the first own slot of seat x from its first fault t on, x is in a sound seat's set up to slot k,
+-- and no longer
 abbrev pub RemovedInOwnSlot : Type 0
 RemovedInOwnSlot =
     (r : Ring) → Agreement r → (p x t k : ℕ) → SoundSeat r p → FirstFault r x t → t ≤ k → k < t + r .n → k % r .n ≡ x

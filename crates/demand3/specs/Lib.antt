@@ -1,4 +1,4 @@
--- The files that state demand 3 and how tight it is; `Model` alone serves the proofs.
+-- The files that state demand 3 and how tight it is.
 pub mod Faults
 pub mod Demand
 pub mod Verdict
@@ -6,4 +6,3 @@ pub mod Runs
 pub mod Example
 pub mod Tight
 pub mod Late
-pub mod Model

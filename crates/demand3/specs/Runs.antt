@@ -1,9 +1,11 @@
--- Runs that show that no part of demand 3 is empty, that the fault terms are tight, and how late a removal can be; each with what comes of it.
+-- Runs that show that no part of demand 3 is empty, that the fault terms are tight, and how late a removal
+-- can be; each with what comes of it.
 use mathlib.Core.Bool.{Bool, true, false}
 use mathlib.Core.List.{List, [], _∷_}
-use Prim.Native.Nat.{ℕ, _-_}
+use Prim.Native.Nat.{ℕ, _-_, _*_}
 use lib.ListN.{replicate}
 use Rattle.lists.specs.Counted.{tab, allBelow}
+use Rattle.trail.specs.Trail.{width}
 use Rattle.ring.specs.Ring.{seatOf}
 use Rattle.terms.specs.Terms.{apartBy}
 use Rattle.ring.specs.Refusals.{Finding, within, outside, verdictFound}
@@ -16,7 +18,8 @@ pub data Run : Type 0 where
   fiveApart : Run
   -- of document 01: n = 4, seat 3 misses time 0, send fault of 0 at time 4, four apart
   fourApart : Run
-  -- n = 3, seat 2 misses time 0 and cannot send at time 2, send fault of 0 at time 3, three apart: one sound seat is left
+  -- n = 3, seat 2 misses time 0 and cannot send at time 2, send fault of 0 at time 3, three apart: one sound
+  -- seat is left
   threeApart : Run
   -- of document 01: n = 3, seat 1 misses time 0 and time 2
   alone : Run
@@ -49,14 +52,14 @@ stepsOf afterOut = missedBy 1 ∷ quiet ∷ quiet ∷ []
 
 -- a trail with room for twenty records
 abbrev pub trailOfRun : List ℕ
-trailOfRun = replicate 100 0
+trailOfRun = replicate (width * 20) 0
 
 abbrev pub lastRing : Run → Ring
 lastRing x = runOn (stepsOf x) (freshBench (seatsIn x) trailOfRun) .ring
 
 -- ---- what comes of a run
 
-pub record Outcome : Type 0 where
+pub record Finish : Type 0 where
   pub verdict : Finding
   pub n : ℕ
   pub time : ℕ
@@ -64,8 +67,8 @@ pub record Outcome : Type 0 where
   pub nApart : Bool
   pub seats : List Seat
 
-abbrev outcomeOn : Ring → Outcome
-outcomeOn r = record {
+abbrev finishOn : Ring → Finish
+finishOn r = record {
   verdict = verdictFound r;
   n = r .n;
   time = r .time;
@@ -73,17 +76,17 @@ outcomeOn r = record {
   seats = tab (r .n) (seatOf r);
 }
 
-unfoldable pub outcomeOf : Run → Outcome
-outcomeOf x = outcomeOn (lastRing x)
+unfoldable pub finishOf : Run → Finish
+finishOf x = finishOn (lastRing x)
 
 -- set, ack, doubt and first fault, as the ring keeps them
 abbrev seat : ℕ → Bool → Bool → ℕ → Seat
 seat set ack doubt fault = record { set = set; ack = ack; doubt = doubt; fault = fault }
 
-abbrev comes : Finding → ℕ → ℕ → List Seat → Outcome
+abbrev comes : Finding → ℕ → ℕ → List Seat → Finish
 comes verdict n time seats = record { verdict = verdict; n = n; time = time; nApart = true; seats = seats }
 
-abbrev pub stated : Run → Outcome
+abbrev pub stated : Run → Finish
 stated fiveApart = comes within 4 9 (seat 5 true false 0 ∷ seat 1 true false 6 ∷ seat 5 true false 0 ∷ seat 6 true false 1 ∷ [])
 stated fourApart = comes (outside 4) 4 5 (seat 7 true true 5 ∷ seat 4 false false 0 ∷ seat 2 false false 0 ∷ seat 6 true false 1 ∷ [])
 stated threeApart = comes (outside 3) 3 4 (seat 3 true true 4 ∷ seat 0 false false 0 ∷ seat 2 true false 1 ∷ [])

@@ -1,4 +1,5 @@
--- That the fault terms are tight in their distance; that agreement needs the distance alone; and that the exception of a seat alone is needed.
+-- That the fault terms are tight in their distance; that agreement needs the distance alone; and that the
+-- exception of a seat alone is needed.
 use mathlib.Core.Bool.{false}
 use mathlib.Core.List.{List}
 use mathlib.Core.Path.{_≡_}

@@ -1,3 +1,3 @@
 -- The files of the table of reference runs.
-pub mod Outcome
+pub mod Reply
 pub mod Runs

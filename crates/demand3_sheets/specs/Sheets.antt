@@ -14,7 +14,8 @@ use Rattle.run.specs.Outcome.{Heard, ran}
 use Rattle.run.specs.Run.{runOf}
 use Rattle.demand3.specs.Demand.{Agreement}
 
--- the bytes are a sheet's, its run takes so many steps, and before and after each of them the ring is in agreement
+-- the bytes are a sheet's, its run takes so many steps, and before and after each of them the ring is in
+-- agreement
 pub record AgreedThroughout (bytes trail : List ℕ) : Type 0 where
   pub sheet : Sheet
   pub end : ℕ

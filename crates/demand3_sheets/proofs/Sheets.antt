@@ -1,6 +1,6 @@
 -- Demand 3 of the run of a sheet, from demand 3 of any list of steps. Assumes nothing.
 use mathlib.Core.Path.{_≡_, refl, sym, ap, _∙_}
-use mathlib.Core.List.{List, _++_}
+use mathlib.Core.List.{List}
 use Prim.Native.Nat.{ℕ, _+_, _-_, _≤_}
 use native.Mathlib.Omega.{arith}
 use Rattle.lists.specs.Counted.{tab}
@@ -15,12 +15,11 @@ use Rattle.sheet.proofs.Good.{read-good}
 use Rattle.run.specs.Marks.{marksAt}
 use Rattle.run.specs.Along.{benchAt}
 use Rattle.run.specs.Outcome.{Heard, Outcome, ran, Result}
-use Rattle.run.specs.Run.{runOf, runSheet}
 use Rattle.run.proofs.Reading.{run-read, run-offence}
 use Rattle.run.proofs.Story.{Ending, agreed, differed, stopped, run-story}
 use Rattle.demand3.specs.Demand.{Agreement}
 use Rattle.demand3.proofs.Demand.{demand3}
-use Rattle.demand3_runs.specs.Sheets.{AgreedThroughout, Demand3OfSheets}
+use Rattle.demand3_sheets.specs.Sheets.{AgreedThroughout, Demand3OfSheets}
 
 -- a run's verdict is that on its last ring
 last-within : (sheet : Sheet) (trail : List ℕ) (k : ℕ) (o : Outcome) → Ending sheet trail k o → (bus : Heard) → o ≡ ran bus within

@@ -1,10 +1,16 @@
--- The rules of document 01 once more, over functions of the seats: the model in which agreement is argued. What is promised does not rest on
--- reading it: proofs/View.antt shows that the engine's step is this one.
-use mathlib.Core.Bool.{Bool, true, false, not, _&&_, cond}
+-- Serves the proofs alone: nothing that a reader must believe rests on this file. The ring over functions of
+-- the seats, with the engine's own table: the model in which agreement is argued. View shows that its step is the
+-- engine's.
+use mathlib.Core.Bool.{Bool, true, false, not, _&&_}
 use mathlib.Core.Logic.{_⊎_}
 use mathlib.Core.Path.{_≡_}
-use Prim.Native.Nat.{ℕ, zero, suc, _+_, _%_, _≤_, _<_}
+use Prim.Native.Nat.{ℕ, suc, _+_, _%_, _≤_, _<_}
 use lib.Dec.{eqb}
+use Rattle.limits.specs.Limits.{seatsLeast}
+use Rattle.turn.specs.Table.{table}
+use Rattle.turn.specs.Turn.{faultAfter}
+use Rattle.turn.specs.declared.table.Row.{Row}
+use Rattle.turn.proofs.GoneLaws.{takesItself, takesOwner}
 
 -- `set p q`: q is in p's set. `fault p`: 0, or one more than the time of p's first fault
 pub record State : Type 0 where
@@ -17,33 +23,11 @@ pub record State : Type 0 where
 
 -- every seat in every set, every acknowledgement true, every doubt false, no faults
 pub record Fresh (s : State) : Type 0 where
-  pub size : 2 ≤ s .n
+  pub size : seatsLeast ≤ s .n
   pub full : {p q : ℕ} → p < s .n → q < s .n → s .set p q ≡ true
   pub says : {p : ℕ} → p < s .n → s .ack p ≡ true
   pub sure : {p : ℕ} → p < s .n → s .doubt p ≡ false
   pub clean : {p : ℕ} → p < s .n → s .fault p ≡ 0
-
--- ---- the table: arrived, bit, own ack, own doubt
-
--- does the seat remove itself
-abbrev pub selfGone : Bool → Bool → Bool → Bool → Bool
-selfGone true true ack doubt = not ack
-selfGone true false true doubt = doubt
-selfGone true false false doubt = false
-selfGone false bit ack doubt = not ack
-
--- does it remove the owner
-abbrev pub ownerGone : Bool → Bool → Bool → Bool → Bool
-ownerGone true true ack doubt = false
-ownerGone true false true doubt = not doubt
-ownerGone true false false doubt = false
-ownerGone false bit ack doubt = true
-
--- its new ack
-abbrev pub newAck : Bool → Bool → Bool → Bool
-newAck true true ack = true
-newAck true false ack = not ack
-newAck false bit ack = false
 
 -- ---- one step
 
@@ -66,19 +50,14 @@ byRole owns x y z = x
 byRole acts x y z = y
 byRole rests x y z = z
 
--- the first fault after a step: did a mark take hold, the time, the first fault before
-abbrev pub first : Bool → ℕ → ℕ → ℕ
-first held time zero = cond held (suc time) zero
-first held time (suc f) = suc f
-
--- a ring and the marks that a step of it is given
-pub record Given : Type 0 where
+-- a state with the marks of the step that it takes
+pub record Marked : Type 0 where
   pub now : State
   pub send : Bool
   pub receive : ℕ → Bool
 
-module _ (t : Given) where
-  open Given t using (now, send, receive)
+module _ (t : Marked) where
+  open Marked t using (now, send, receive)
   open State now using (n, time, set, ack, doubt, fault)
 
   abbrev pub owner : ℕ
@@ -94,18 +73,22 @@ module _ (t : Given) where
   abbrev pub arrived : ℕ → Bool
   arrived p = speaks && not (receive p)
 
+  -- what a seat that decides is told by the table
+  abbrev pub row : ℕ → Row
+  row p = table (arrived p) (ack owner) (ack p) (doubt p)
+
   abbrev pub leaves : ℕ → Bool
-  leaves p = selfGone (arrived p) (ack owner) (ack p) (doubt p)
+  leaves p = takesItself (row p .removed)
 
   abbrev pub drops : ℕ → Bool
-  drops p = ownerGone (arrived p) (ack owner) (ack p) (doubt p)
+  drops p = takesOwner (row p .removed)
 
   abbrev pub learns : ℕ → Bool
-  learns p = newAck (arrived p) (ack owner) (ack p)
+  learns p = row p .ack
 
   -- a mark takes hold on the seat
   abbrev pub hold : ℕ → Bool
-  hold p = byRole (role p) send (receive p && speaks) false
+  hold p = byRole (role p) send (speaks && receive p) false
 
   -- the set of a seat that decides
   abbrev pub left : ℕ → ℕ → Bool
@@ -118,7 +101,7 @@ module _ (t : Given) where
     set = λ p q. byRole (role p) (set p q) (left p q) (set p q);
     ack = λ p. byRole (role p) true (learns p) (ack p);
     doubt = λ p. byRole (role p) (not (ack p)) false (doubt p);
-    fault = λ p. first (hold p) time (fault p);
+    fault = λ p. faultAfter (hold p) (suc time) (fault p);
   }
 
 -- ---- the fault terms, and what is to hold
@@ -135,7 +118,8 @@ module _ (s : State) where
     pub seat : x < n
     pub since : fault x ≡ suc f
 
-  -- first faults are at least n + 1 slots apart. (Document 01 asks for two sound seats too; agreement does not need them)
+  -- first faults are at least n + 1 slots apart. (Document 01 asks for two sound seats too; agreement does
+  -- not need them)
   pub record Terms : Type 0 where
     pub apart : {x y f g : ℕ} → Faulty x f → Faulty y g → (x ≡ y → ⊥) → f ≤ g → f + n < g
 
