@@ -1,9 +1,10 @@
 // What one seat makes of a slot: who speaks, what the seat sees of it, what it decides, and the seat after it.
 ghost use mathlib.Core.Path.{_≡_};
+ghost use Rattle.turn.specs.Table.{countOf};
 ghost use Rattle.turn.specs.Turn.{spokenBy, isMissed, viewOf, faultAfter, ownerTurn, otherTurn, turnOf};
 
 pub mod calm; // calm.rt: the seats that are seen at once to keep all that they have
-pub mod table; // table.rt: the table, and whom a removal takes
+mod table; // table.rt: the table, and whom a removal takes
 
 // What the owner puts on the bus in its slot.
 pub enum Spoken {
@@ -147,6 +148,18 @@ fn other_turn(slot: Slot, p: usize, s: Seat) -> Turn
             fault,
         },
         removal,
+    }
+}
+
+// How many seats a removal takes from a set.
+pub fn count_of(removal: Removal) -> usize
+    ensures { λ r. ⌜ r ≡ countOf removal ⌝ }
+{
+    match removal {
+        Removal::Nobody => 0,
+        Removal::Itself(_) => 1,
+        Removal::Owner(_) => 1,
+        Removal::Both(_, _) => 2,
     }
 }
 

@@ -1,6 +1,6 @@
 // The table of document 01: what a seat that expects the owner decides, and whom that takes from its set.
 ghost use mathlib.Core.Path.{_≡_};
-ghost use Rattle.turn.specs.Table.{row, table, arrived, bitOf, decided, goneBy, countOf, withoutAll};
+ghost use Rattle.turn.specs.Table.{row, table, arrived, bitOf, decided, goneBy, withoutAll};
 use crate::Cause;
 use crate::Decision;
 use crate::Removal;
@@ -87,17 +87,5 @@ pub fn after_removal(set: u32, p: usize, b: usize, removal: Removal) -> u32
         Removal::Itself(_) => seats::without(set, p),
         Removal::Owner(_) => seats::without(set, b),
         Removal::Both(_, _) => seats::without(seats::without(set, p), b),
-    }
-}
-
-// How many seats a removal takes from a set.
-pub fn count_of(removal: Removal) -> usize
-    ensures { λ r. ⌜ r ≡ countOf removal ⌝ }
-{
-    match removal {
-        Removal::Nobody => 0,
-        Removal::Itself(_) => 1,
-        Removal::Owner(_) => 1,
-        Removal::Both(_, _) => 2,
     }
 }
