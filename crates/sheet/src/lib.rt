@@ -70,28 +70,28 @@ fn sheet_in(bytes: &[u8]) -> Whole
     ensures { λ r. ⌜ r ≡ wholeOf (sheetIn (now (bytes .entry))) ⌝ }
 {
     let count = sheet_lines::line(bytes, 0, limits::SEATS_LEAST, limits::SEATS_MOST);
-    let Piece::Found(n, a) = count else {
+    let Piece::Found(n, first_module) = count else {
         return stopped(count);
     };
-    let ring = modules::module_lines(bytes, a, n);
+    let ring = modules::module_lines(bytes, first_module, n);
     let ring_end = ring.end;
-    let Piece::Found(_, b) = ring_end else {
+    let Piece::Found(_, marks_at) = ring_end else {
         return stopped(ring_end);
     };
-    let count = sheet_lines::line(bytes, b, 0, limits::MARKS_MOST);
-    let Piece::Found(mark_count, c) = count else {
+    let count = sheet_lines::line(bytes, marks_at, 0, limits::MARKS_MOST);
+    let Piece::Found(mark_count, first_mark) = count else {
         return stopped(count);
     };
-    let marked = marks::mark_lines(bytes, c, n, mark_count);
+    let marked = marks::mark_lines(bytes, first_mark, n, mark_count);
     let marks_end = marked.end;
-    let Piece::Found(_, d) = marks_end else {
+    let Piece::Found(_, slots_at) = marks_end else {
         return stopped(marks_end);
     };
-    let count = sheet_lines::line(bytes, d, 0, limits::SLOTS_MOST);
-    let Piece::Found(slot_count, e) = count else {
+    let count = sheet_lines::line(bytes, slots_at, 0, limits::SLOTS_MOST);
+    let Piece::Found(slot_count, first_slot) = count else {
         return stopped(count);
     };
-    let heard = slots::slot_lines(bytes, e, slot_count);
+    let heard = slots::slot_lines(bytes, first_slot, slot_count);
     let slots_end = heard.end;
     let Piece::Found(_, end) = slots_end else {
         return stopped(slots_end);

@@ -9,7 +9,6 @@ ghost use Rattle.sheet.specs.Inside.{beside, fieldsOf, offenceOf};
 use crate::Mark;
 use limits::Refusal;
 use sheet_lines::Piece;
-use sheet_lines::Want;
 
 // A mark line's fields; and the place after them, or the offence.
 struct Line {
@@ -53,14 +52,15 @@ fn fields(s: &[u8], at: usize) -> Line
     let Piece::Found(seat, b) = second else {
         return no_line(second);
     };
-    let end = sheet_lines::lone(s, b, Want::Kind);
-    let Piece::Found(kind, _) = end else {
+    let end = sheet_lines::kind(s, b);
+    let Piece::Found(byte, _) = end else {
         return no_line(end);
     };
+    let kind = byte as u8;
     Line {
         time,
         seat,
-        kind: kind as u8,
+        kind,
         end,
     }
 }

@@ -6,7 +6,6 @@ ghost use Rattle.sheet.specs.Entries.{entriesAt, slotLine};
 ghost use Rattle.sheet.specs.Sheets.{noSlots};
 ghost use Rattle.sheet.specs.Inside.{beside};
 use sheet_lines::Piece;
-use sheet_lines::Want;
 
 pub struct Slots {
     pub list: [u8; limits::SLOTS_MOST],
@@ -28,7 +27,7 @@ pub fn slot_lines(s: &[u8], start: usize, count: usize) -> Slots
     let mut at = start;
     let mut k: usize = 0;
     while k < count {
-        let one = sheet_lines::lone(s, at, Want::Heard);
+        let one = sheet_lines::heard(s, at);
         let Piece::Found(heard, next) = one else {
             return Slots { list, end: one };
         };

@@ -17,7 +17,7 @@ use Rattle.sheet.proofs.SheetLaws.{not-done}
 
 -- ---- a piece of a line
 
--- a piece is what it says, so no two keep the promise of `line`, `spaced` or `lone`
+-- a piece is what it says, so no two keep the promise of `line`, `spaced`, `kind` or `heard`
 pub one-piece : (a b : Piece) → foundOf a ≡ foundOf b → a ≡ b
 one-piece (piece.Found v n) (piece.Found w m) e =
     let x : v ≡ w = cc in

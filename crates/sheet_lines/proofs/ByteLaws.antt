@@ -12,8 +12,7 @@ use Rattle.lists.proofs.Tests.{all-at}
 use Rattle.limits.specs.declared.Refusal.the-variants.{EndsEarly, WrongByte}
 use Rattle.sheet_lines.specs.Found.{found, offence}
 use Rattle.sheet_lines.specs.Bytes.{byteAt}
-use Rattle.sheet_lines.specs.Classes.{classOf, codeOf}
-use Rattle.sheet_lines.specs.Pieces.{canBe}
+use Rattle.sheet_lines.specs.Classes.{canBe, classOf, codeOf}
 use Rattle.sheet_lines.specs.declared.bytes.Class.{Class}
 use Rattle.sheet_lines.specs.declared.Want.{Want}
 use Rattle.sheet_lines.specs.declared.Want.the-variants.{Digit, Space, Feed, Kind, Heard}

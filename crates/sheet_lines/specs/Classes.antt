@@ -1,11 +1,22 @@
--- The reader's private classes of bytes in the words of the definitions. Nothing that is promised of a public function rests on this file.
+-- What the reader privately wants of a byte, and its classes of bytes, in the words of the definitions. Nothing that is promised of a public function
+-- rests on this file.
 use Prim.Native.Nat.{ℕ}
-use mathlib.Core.Bool.{cond, _&&_, _||_}
+use mathlib.Core.Bool.{Bool, cond, _&&_, _||_}
 use lib.Dec.{leb, eqb}
 use Rattle.text.specs.Ascii.{space, lineFeed, digit}
-use Rattle.sheet_lines.specs.Bytes.{send, receive, dark, heardOne, heardZero, heardSilence}
+use Rattle.sheet_lines.specs.Bytes.{send, receive, dark, heardOne, heardZero, heardSilence, isDigit, isSpace, isLineFeed, isKind, isHeard}
+use Rattle.sheet_lines.specs.declared.Want.{Want}
+use Rattle.sheet_lines.specs.declared.Want.the-variants as want
 use Rattle.sheet_lines.specs.declared.bytes.Class.{Class}
 use Rattle.sheet_lines.specs.declared.bytes.Class.the-variants.{Bit, Digit, Space, Feed, Kind, Silence, Other}
+
+-- the bytes that are wanted
+abbrev pub canBe : Want → ℕ → Bool
+canBe want.Digit = isDigit
+canBe want.Space = isSpace
+canBe want.Feed = isLineFeed
+canBe want.Kind = isKind
+canBe want.Heard = isHeard
 
 -- the class of a byte
 unfoldable pub classOf : ℕ → Class

@@ -2,8 +2,8 @@
 ghost use mathlib.Core.Path.{_≡_};
 ghost use lib.Dec.{eqb};
 ghost use Rattle.sheet_lines.specs.Bytes.{byteAt};
-ghost use Rattle.sheet_lines.specs.Classes.{classOf, codeOf};
-ghost use Rattle.sheet_lines.specs.Pieces.{canBe, foundOf};
+ghost use Rattle.sheet_lines.specs.Classes.{canBe, classOf, codeOf};
+ghost use Rattle.sheet_lines.specs.Pieces.{foundOf};
 use crate::Piece;
 use crate::Want;
 use limits::Refusal;

@@ -1,7 +1,9 @@
 // What stands on the lines of a sheet, read from any bytes whatever: a number alone, a number and a space, a byte alone.
 ghost use mathlib.Core.Path.{_≡_};
+ghost use Rattle.sheet_lines.specs.Bytes.{isKind, isHeard};
 ghost use Rattle.sheet_lines.specs.Lines.{endAt, ended, lineAt, spacedAt, loneAt};
-ghost use Rattle.sheet_lines.specs.Pieces.{canBe, foundOf};
+ghost use Rattle.sheet_lines.specs.Pieces.{foundOf};
+ghost use Rattle.sheet_lines.specs.Classes.{canBe};
 use limits::Refusal;
 
 mod bytes; // bytes.rt: what a byte is, and which may stand at a place
@@ -21,7 +23,7 @@ pub const HEARD_ZERO: u8 = b'0';
 pub const HEARD_SILENCE: u8 = b'-';
 
 // What the sheet's grammar asks for at a place.
-pub enum Want {
+enum Want {
     Digit,
     Space,
     Feed,
@@ -93,8 +95,22 @@ pub fn spaced(s: &[u8], at: usize) -> Piece
 }
 
 // A byte alone on its line.
-pub fn lone(s: &[u8], at: usize, want: Want) -> Piece
+fn lone(s: &[u8], at: usize, want: Want) -> Piece
     ensures { λ r. ⌜ foundOf r ≡ loneAt (canBe want) (now (s .entry)) at ⌝ }
 {
     to_end(s, bytes::byte(s, at, want))
+}
+
+// The kind of a mark, alone on what is left of its line.
+pub fn kind(s: &[u8], at: usize) -> Piece
+    ensures { λ r. ⌜ foundOf r ≡ loneAt isKind (now (s .entry)) at ⌝ }
+{
+    lone(s, at, Want::Kind)
+}
+
+// What the bus recorder heard, alone on its line.
+pub fn heard(s: &[u8], at: usize) -> Piece
+    ensures { λ r. ⌜ foundOf r ≡ loneAt isHeard (now (s .entry)) at ⌝ }
+{
+    lone(s, at, Want::Heard)
 }

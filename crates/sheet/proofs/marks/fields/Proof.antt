@@ -26,12 +26,12 @@ returns-3 c =
     let kind = c .before .before .before in
     let seat = kind .before .before in
     let time = seat .before .before .before .before in
-    rw (c .no-line3 .ensures, ← time .before .before .spaced .ensures, time .first .given .1, ← seat .before .before .spaced2 .ensures, seat .second .given .1, ← kind .lone .ensures, c .before .enum-told3 .given .1)
+    rw (c .no-line3 .ensures, ← time .before .before .spaced .ensures, time .first .given .1, ← seat .before .before .spaced2 .ensures, seat .second .given .1, ← kind .kind .ensures, c .before .enum-told3 .given .1)
 
-cast-t12 : tie.Need-cast-t12
-cast-t12 c =
+cast-kind : tie.Need-cast-kind
+cast-kind c =
     let k = c .before .end .given .0 .0 in
-    omega (arith, kind-small k (lone-found isKind _ _ k _ (found-by (c .before .before .before .lone .ensures) (c .before .end .given .1))))
+    omega (arith, kind-small k (lone-found isKind _ _ k _ (found-by (c .before .before .before .kind .ensures) (c .before .end .given .1))))
 
 returns-4 : tie.Need-returns-4
 unfolding fieldsAt
@@ -39,7 +39,7 @@ returns-4 c =
     let kind = c .before .before .before in
     let seat = kind .before .before in
     let time = seat .before .before .before .before in
-    rw (← time .before .before .spaced .ensures, time .first .given .1, ← seat .before .before .spaced2 .ensures, seat .second .given .1, ← kind .lone .ensures, c .before .end .given .1)
+    rw (← time .before .before .spaced .ensures, time .first .given .1, ← seat .before .before .spaced2 .ensures, seat .second .given .1, ← kind .kind .ensures, c .before .end .given .1)
 
 pub fields-spec : {M : Type 1} → statement M
 fields-spec =
@@ -48,5 +48,5 @@ fields-spec =
     (λ c κs. search needs) (λ c. search needs) (λ c. search needs) (λ c κs. search needs) returns
     (λ c κs. search needs) (λ c. search needs) (λ c. search needs) (λ c κs. search needs) returns-2
     (λ c κs. search needs) (λ c. search needs) (λ c. search needs) (λ c κs. search needs) returns-3
-    cast-t12
+    cast-kind
     returns-4)

@@ -1,7 +1,7 @@
 -- `module_lines`: a line a turn; the search passes numbers that differ, and is left by the label at one that does not. Assumes nothing.
 use borrow.Author.Needs.{needs}
 use Prim.Native.Nat.{ℕ, _-_, _<_, _≤_}
-use mathlib.Core.Path.{_≡_, sym, ap, _∙_}
+use mathlib.Core.Path.{_≡_}
 use mathlib.Core.Logic.{⊎-elim}
 use native.Mathlib.Omega.{arith}
 use lib.ListN.{getD}
@@ -10,9 +10,9 @@ use Rattle.limits.specs.Limits.{moduleMost}
 use Rattle.limits.specs.declared.Refusal.the-variants.{ModuleTwice}
 use Rattle.sheet.specs.Entries.{moduleLine}
 use Rattle.sheet.specs.Sheets.{noModules}
-use Rattle.sheet_lines.specs.Pieces.{foundOf}
 use Rattle.sheet_lines.proofs.LineLaws.{line-within}
 use Rattle.sheet.proofs.EntryLaws.{is-new, not-new, Reached, begins, goes-on, stops, ends}
+use Rattle.sheet.proofs.SheetLaws.{found-by}
 use Rattle.sheet.proofs.modules.module_lines.Statement.{statement}
 use Rattle.sheet.proofs.modules.module_lines.Tie as tie
 
@@ -38,7 +38,7 @@ returns c =
     rw (g .1, stops _ _ _ _ _ _ _ (c .before .before .before .before .lines .inv) (c .before .before .before .lines-test .taken) (g .0 .0) (g .0 .1 .0) (rw (← c .before .before .line .ensures, g .1)))
 
 cast-number : tie.Need-cast-number Inv-loop μ-loop Inv-lines μ-lines
-cast-number c = omega (arith, line-within 1 moduleMost _ _ _ _ (sym (c .before .before .before .line .ensures) ∙ ap foundOf (c .before .one .given .1)))
+cast-number c = omega (arith, line-within 1 moduleMost _ _ _ _ (found-by (c .before .before .before .line .ensures) (c .before .one .given .1)))
 
 loop-again : tie.Need-loop-again Inv-loop μ-loop Inv-lines μ-lines
 loop-again c = (omega arith, below-more _ _ (c .before .before .loop .inv .1) (c .if1 .left))

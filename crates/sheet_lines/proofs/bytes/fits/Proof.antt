@@ -2,8 +2,7 @@
 use borrow.Author.Needs.{needs}
 use Prim.Native.Nat.{ℕ, _<_}
 use mathlib.Core.Path.{_≡_, sym, _∙_}
-use Rattle.sheet_lines.specs.Classes.{classOf}
-use Rattle.sheet_lines.specs.Pieces.{canBe}
+use Rattle.sheet_lines.specs.Classes.{canBe, classOf}
 use Rattle.sheet_lines.specs.declared.bytes.Class.{Class}
 use Rattle.sheet_lines.specs.declared.Want.{Want}
 use Rattle.sheet_lines.specs.declared.Want.the-variants.{Digit, Space, Feed, Kind, Heard}
