@@ -1,4 +1,5 @@
--- A good sheet taken apart: what each of its lines has on it, its counts with their lines, and which entries its lines change. Assumes nothing.
+-- A good sheet taken apart: what each of its lines has on it, its counts with their lines, and which entries
+-- its lines change. Assumes nothing.
 use mathlib.Core.Path.{_≡_, refl, sym, ap, _∙_}
 use mathlib.Core.Bool.{Bool, true, false, cond}
 use mathlib.Core.List.{List}

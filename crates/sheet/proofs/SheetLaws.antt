@@ -11,6 +11,8 @@ use Rattle.sheet.specs.Sheets.{readTold, sheetOf}
 use Rattle.sheet.specs.Inside.{beside, wholeOf}
 use Rattle.sheet.specs.declared.Sheet.{Sheet}
 
+-- ---- what was found
+
 pub found-by : {p : Piece} {x : Found ℕ} {v n : ℕ} → foundOf p ≡ x → p ≡ piece.Found v n → x ≡ found v n
 found-by e f = sym e ∙ ap foundOf f
 

@@ -11,7 +11,8 @@ use Rattle.sheet_lines.specs.Found.{Found, found, offence, andThen}
 use Rattle.sheet_lines.specs.Bytes.{isHeard}
 use Rattle.sheet_lines.specs.Lines.{lineAt, loneAt}
 
--- so many lines from a place on, the first being line k: `line at k entries` is what the line at `at` makes of the entries so far
+-- so many lines from a place on, the first being line k: `line at k entries` is what the line at `at` makes
+-- of the entries so far
 unfoldable pub linesAt : {S : Type 0} → (ℕ → ℕ → S → Found S) → ℕ → ℕ → ℕ → S → Found S
 linesAt line zero at k entries = found entries at
 linesAt line (suc more) at k entries = andThen (line at k entries) (λ entries next. linesAt line more next (k + 1) entries)

@@ -1,4 +1,5 @@
--- What document 01 says of a good sheet, entry by entry. That every sheet read has it is a theorem; the promise of `read` does not rest on it.
+-- What document 01 says of a good sheet, entry by entry. That every sheet read has it is a theorem; the
+-- promise of `read` does not rest on it.
 use Prim.Native.Nat.{ℕ, suc, _≤_, _<_}
 use mathlib.Core.Path.{_≡_}
 use mathlib.Core.Bool.{true}
@@ -23,7 +24,8 @@ pub record GoodSheet (sheet : Sheet) : Type 0 where
   pub seats : (seatsLeast ≤ sheet .n) × (sheet .n ≤ seatsMost)
   pub numbers : (i : ℕ) → i < sheet .n → (1 ≤ moduleOf sheet i) × (moduleOf sheet i ≤ moduleMost)
   pub different : (i j : ℕ) → i < sheet .n → j < i → moduleOf sheet j ≡ moduleOf sheet i → ⊥
-  -- 0 to 256 marks, of times below 4,096, seats below n and the three kinds; S for the owner and R for no owner; they ascend strictly
+  -- 0 to 256 marks, of times below 4,096, seats below n and the three kinds; S for the owner and R for no
+  -- owner; they ascend strictly
   pub marked : sheet .«mark_count» ≤ marksMost
   pub times : (i : ℕ) → i < sheet .«mark_count» → markOf sheet i .time < slotsMost
   pub marked-seats : (i : ℕ) → i < sheet .«mark_count» → markOf sheet i .seat < sheet .n

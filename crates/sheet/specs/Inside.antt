@@ -1,4 +1,5 @@
--- What the reader's private answers say in the words of the definitions. Nothing that is promised of `read` rests on this file.
+-- What the reader's private answers say in the words of the definitions. Nothing that is promised of `read`
+-- rests on this file.
 use mathlib.Core.Option.{Option, none, some}
 use Rattle.limits.specs.declared.Refusal.{Refusal}
 use Rattle.sheet_lines.specs.Found.{Found, found, offence}

@@ -1,4 +1,5 @@
-// Run sheets: from any bytes whatever to a sheet value and an answer, as document 01 says under 'Run sheets' and 'Refusal numbers'.
+// Run sheets: from any bytes whatever to a sheet value and an answer, as document 01 says under 'Run sheets'
+// and 'Refusal numbers'.
 ghost use mathlib.Core.Path.{_≡_};
 ghost use Rattle.sheet.specs.Sheets.{noSheet, sheetIn, ReadPromise};
 ghost use Rattle.sheet.specs.Inside.{stoppedAt, wholeOf};
@@ -16,7 +17,8 @@ pub struct Mark {
     pub kind: u8,
 }
 
-// A sheet: the module number of each seat, the marks, and what was heard in each slot. Entries past each count are zero.
+// A sheet: the module number of each seat, the marks, and what was heard in each slot. Entries past each
+// count are zero.
 pub struct Sheet {
     pub n: usize,
     pub modules: [u16; limits::SEATS_MOST],
@@ -56,6 +58,7 @@ struct Whole {
     end: Piece,
 }
 
+// An offence ends the reading, and no part of a sheet is handed on.
 fn stopped(end: Piece) -> Whole
     ensures { λ r. ⌜ r ≡ stoppedAt end ⌝ }
 {

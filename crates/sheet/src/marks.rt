@@ -29,6 +29,7 @@ pub struct Marks {
     pub end: Piece,
 }
 
+// What stands beside an offence is not looked at.
 fn no_line(end: Piece) -> Line
     ensures { λ r. ⌜ fieldsOf r ≡ beside noMark end ⌝ }
 {

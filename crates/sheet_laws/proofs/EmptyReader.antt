@@ -1,4 +1,5 @@
--- Neither empty program keeps the promise of `read` (specs/EmptyReader.antt): the empty sheet is refused, and lines 2, 7, 8, 0, 0 are read.
+-- Neither empty program keeps the promise of `read` (specs/EmptyReader.antt): the empty sheet is refused, and
+-- lines 2, 7, 8, 0, 0 are read.
 use mathlib.Core.List.{List, [], _∷_}
 use mathlib.Core.Path.{_≡_, refl, sym, ap, _∙_}
 use Prim.Native.Nat.{ℕ}

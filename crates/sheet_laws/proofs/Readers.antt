@@ -1,5 +1,5 @@
--- What a reader has seen of a sheet when it answers, and that no more than that can change its answer: for readers in turn, for bytes and for numbers.
--- Assumes nothing.
+-- What a reader has seen of a sheet when it answers, and that no more than that can change its answer: for
+-- readers in turn, for bytes and for numbers. Assumes nothing.
 use mathlib.Core.Path.{_≡_, refl, sym, ap, ap₂, _∙_}
 use mathlib.Core.Bool.{Bool, true, false, cond, false≢true}
 use mathlib.Core.List.{List}

@@ -1,5 +1,5 @@
--- The reader never looks past the byte at which it refuses. Assumes nothing.
--- That byte is the one refused in 2 and 7, and the last of the line in 3 to 6. In 1 there is none: the sheet ended.
+-- The reader never looks past the byte at which it refuses. That byte is the one refused in 2 and 7, and the
+-- last of the line in 3 to 6. In 1 there is none: the sheet ended. Assumes nothing.
 use mathlib.Core.Path.{_≡_, refl, sym, ap, _∙_}
 use mathlib.Core.Bool.{Bool, true, false, cond}
 use mathlib.Core.List.{List, _++_}

@@ -1,4 +1,5 @@
--- The two empty programs of document 01 that can stand in the place of `read`: one refuses every sheet, one has a constant result.
+-- The two empty programs of document 01 that can stand in the place of `read`: one refuses every sheet, one
+-- has a constant result.
 use mathlib.Core.List.{List}
 use mathlib.Core.Path.{_≡_}
 use Prim.Native.Nat.{ℕ}

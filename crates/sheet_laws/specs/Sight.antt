@@ -1,4 +1,5 @@
--- What a reader has seen of a sheet when it refuses it, in words for a theorem: no byte after those can change the answer.
+-- What a reader has seen of a sheet when it refuses it, in words for a theorem: no byte after those can
+-- change the answer.
 use mathlib.Core.Path.{_≡_}
 use mathlib.Core.List.{List}
 use mathlib.Core.Logic.{_⊎_}
@@ -14,8 +15,9 @@ pub record Same (seen : ℕ) (s t : List ℕ) : Type 0 where
   pub also : seen ≤ length t
   pub bytes : (i : ℕ) → i < seen → getD s i 0 ≡ getD t i 0
 
--- a reader, a function of the sheet, starts at `from` in the sheet s and stops, but not at the sheet's end: it has seen so many bytes, up to the one
--- refused where a byte is, and refuses alike every sheet that has the same
+-- a reader, a function of the sheet, starts at `from` in the sheet s and stops, but not at the sheet's end:
+-- it has seen so many bytes, up to the one refused where a byte is, and refuses alike every sheet that has
+-- the same
 pub record Stopped {A : Type 0} (from : ℕ) (read : List ℕ → Found A) (s : List ℕ) (why : Refusal) (place : ℕ) : Type 0 where
   pub seen : ℕ
   pub after : from ≤ seen

@@ -1,5 +1,5 @@
--- What the reader privately wants of a byte, and its classes of bytes, in the words of the definitions. Nothing that is promised of a public function
--- rests on this file.
+-- What the reader privately wants of a byte, and its classes of bytes, in the words of the definitions.
+-- Nothing that is promised of a public function rests on this file.
 use Prim.Native.Nat.{ℕ}
 use mathlib.Core.Bool.{Bool, cond, _&&_, _||_}
 use lib.Dec.{leb, eqb}

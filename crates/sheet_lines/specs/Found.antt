@@ -1,4 +1,5 @@
--- What reading a sheet from left to right comes to: what was found and the place after it, or the first offence and its place.
+-- What reading a sheet from left to right comes to: what was found and the place after it, or the first
+-- offence and its place.
 use Prim.Native.Nat.{ℕ}
 use Rattle.limits.specs.declared.Refusal.{Refusal}
 

@@ -1,4 +1,5 @@
--- What stands on a line of a sheet: a number alone and within its limits, a number and one space, a byte alone; and where a line ends.
+-- What stands on a line of a sheet: a number alone and within its limits, a number and one space, a byte
+-- alone; and where a line ends.
 use Prim.Native.Nat.{ℕ}
 use mathlib.Core.Bool.{Bool, cond, _&&_}
 use mathlib.Core.List.{List}

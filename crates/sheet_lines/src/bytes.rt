@@ -1,4 +1,5 @@
-// The bytes of a sheet: what each is, and which may stand at a place. Refusals 1 and 2 arise here and nowhere else.
+// The bytes of a sheet: what each is, and which may stand at a place. Refusals 1 and 2 arise here and nowhere
+// else.
 ghost use mathlib.Core.Path.{_≡_};
 ghost use lib.Dec.{eqb};
 ghost use Rattle.sheet_lines.specs.Bytes.{byteAt};

@@ -1,4 +1,5 @@
-// What stands on the lines of a sheet, read from any bytes whatever: a number alone, a number and a space, a byte alone.
+// What stands on the lines of a sheet, read from any bytes whatever: a number alone, a number and a space, a
+// byte alone.
 ghost use mathlib.Core.Path.{_≡_};
 ghost use Rattle.sheet_lines.specs.Bytes.{isKind, isHeard};
 ghost use Rattle.sheet_lines.specs.Lines.{endAt, ended, lineAt, spacedAt, loneAt};

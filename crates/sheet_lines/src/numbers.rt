@@ -30,7 +30,8 @@ fn digits(s: &[u8], start: usize, first: usize) -> Piece
     Piece::Found(value, at)
 }
 
-// 1 to 5 digits without a leading zero. What follows them decides the rest: a sixth digit, as one after a leading zero, cannot stand there.
+// 1 to 5 digits without a leading zero. What follows them decides the rest: a sixth digit, as one after a
+// leading zero, cannot stand there.
 pub fn number(s: &[u8], at: usize) -> Piece
     ensures { λ r. ⌜ foundOf r ≡ numberAt (now (s .entry)) at ⌝ }
 {

@@ -1,4 +1,5 @@
--- `module_lines`: a line a turn; the search passes numbers that differ, and is left by the label at one that does not. Assumes nothing.
+-- `module_lines`: a line a turn; the search passes numbers that differ, and is left by the label at one that
+-- does not. Assumes nothing.
 use borrow.Author.Needs.{needs}
 use Prim.Native.Nat.{ℕ, _-_, _<_, _≤_}
 use mathlib.Core.Path.{_≡_}

@@ -1,4 +1,5 @@
--- `digits`: what is left of the digits reads as all of them did, and the value has as many digits as were passed. Assumes nothing.
+-- `digits`: what is left of the digits reads as all of them did, and the value has as many digits as were
+-- passed. Assumes nothing.
 use Rattle.sheet_lines.proofs.numbers.digits.Statement.{statement}
 use borrow.Author.Needs.{needs}
 use Prim.Native.Nat.{_≤_}
