@@ -21,7 +21,7 @@ use Rattle.ring.specs.declared.StepAnswer.{StepAnswer}
 use Rattle.ring.specs.declared.StepAnswer.the-variants.{Taken, Refused}
 use Rattle.turn.specs.declared.Seat.{Seat}
 use Rattle.steps.specs.Run.{Marks, quiet, sendFault, Bench, toldOn, stepOn, freshBench, Reached, start, taken}
-use Rattle.steps.proofs.Taken.{not-done}
+use Rattle.limits.proofs.Refusals.{not-done}
 use Rattle.demand2.specs.Empty.{Program, made, on, Keeps, RefusesAll, refuser, Constant, constantly, StandsStill, sleeper, FirstOnly, firstTimer, Invents, inventor}
 use Rattle.demand2.specs.Refused.{Answered, not-a-ring, wrong-mark, at-the-end, no-room}
 use Rattle.demand2.specs.Refused as row

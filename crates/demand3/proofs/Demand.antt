@@ -10,7 +10,7 @@ use Prim.Native.Nat.{ℕ, _+_, _≤_}
 use Rattle.limits.specs.Limits.{seatsLeast, seatsMost}
 use Rattle.ring.specs.Refusals.{verdictFound, within}
 use Rattle.steps.specs.Run.{Marks, Bench, toldOn, stepOn, freshBench, Reached, start, runOn}
-use Rattle.steps.proofs.Taken.{told-is}
+use Rattle.limits.proofs.Refusals.{told-is}
 use Rattle.steps.proofs.Reached.{reached-stands, step-refused, run-append, run-reached}
 use Rattle.demand3.specs.Faults.{Apart}
 use Rattle.demand3.specs.Demand.{Agreement, Demand3, HeldBefore}

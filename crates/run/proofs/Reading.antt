@@ -7,7 +7,7 @@ use Rattle.limits.specs.Refusals.{numberOf}
 use Rattle.limits.specs.declared.Refusal.{Refusal}
 use Rattle.ring.specs.Ring.{zeroRing}
 use Rattle.ring.specs.declared.Ring.{Ring}
-use Rattle.steps.proofs.Taken.{not-done}
+use Rattle.limits.proofs.Refusals.{not-done}
 use Rattle.sheet_lines.specs.Found.{Found, found, offence}
 use Rattle.sheet.specs.Good.{GoodSheet}
 use Rattle.sheet.specs.Sheets.{noSheet, sheetIn, readTells, readTold, sheetOf, ReadPromise}
@@ -53,7 +53,7 @@ module _ (bytes : List ℕ) (r : Reading) (p : ReadPromise bytes r) where
     where
       go : (f : Found Sheet) → sheetIn bytes ≡ f → readTells (r .answer) ≡ readTold f → r .sheet ≡ sheetOf f → (end : ℕ) × (sheetIn bytes ≡ found (r .sheet) end)
       go (found sheet end) q a s = (end, q ∙ ap (λ (x : Sheet). found x end) (sym s))
-      go (offence why place) q a s = absurd (not-done (sym a ∙ ap readTells e))
+      go (offence why place) q a s = not-done (sym a ∙ ap readTells e)
 
   -- a sheet that is read is run
   pub keeps-read : (t : List ℕ) (x : Ran) (t′ : List ℕ) → r .answer ≡ Read → Leaves (runSheet (r .sheet) t) x t′ → RunPromise bytes t x t′
@@ -65,7 +65,7 @@ module _ (bytes : List ℕ) (r : Reading) (p : ReadPromise bytes r) where
   keeps-refused t why place ring x e z l = go (sheetIn bytes) refl (sym (ap readTells e) ∙ p .answer) (p .sheet)
     where
       go : (f : Found Sheet) → sheetIn bytes ≡ f → readTells (Refused why place) ≡ readTold f → r .sheet ≡ sheetOf f → RunPromise bytes t x t
-      go (found sheet end) q a s = absurd (not-done a)
+      go (found sheet end) q a s = not-done a
       go (offence why′ place′) q a s =
           let n : numberOf why ≡ numberOf why′ = cc in
           let m : place ≡ place′ = cc in

@@ -12,7 +12,7 @@ use Rattle.lists.proofs.Counted.{below-last}
 use Rattle.lists.proofs.Tests.{both}
 use Rattle.ring.specs.Refusals.{verdictFound}
 use Rattle.steps.specs.Run.{Bench, toldOn, stepOn, freshBench, taken, runOn}
-use Rattle.steps.proofs.Taken.{told-is}
+use Rattle.limits.proofs.Refusals.{told-is}
 use Rattle.steps.proofs.Reached.{fresh-time, step-after, run-append}
 use Rattle.sheet.specs.Good.{heardIn}
 use Rattle.sheet.specs.declared.Sheet.{Sheet}

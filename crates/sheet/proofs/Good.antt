@@ -25,7 +25,7 @@ use Rattle.sheet.specs.declared.ReadAnswer.the-variants.{Read}
 use Rattle.sheet.specs.declared.Reading.{Reading}
 use Rattle.sheet_lines.proofs.LineLaws.{then-found, line-within, lone-found}
 use Rattle.sheet.proofs.MarkLaws.{Kept, good-mark}
-use Rattle.sheet.proofs.SheetLaws.{not-done}
+use Rattle.limits.proofs.Refusals.{not-done}
 use Rattle.sheet.proofs.Parts.{lines-others, module-found, slot-found, mark-line-found, fields-found, sheet-found}
 
 -- ---- what holds of each entry, where it holds of the line that made it

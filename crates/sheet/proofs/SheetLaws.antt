@@ -1,7 +1,6 @@
 -- What was found, as the code has it, and what a reading then says. Assumes nothing.
 use mathlib.Core.Path.{_≡_, refl, sym, ap, _∙_}
 use Prim.Native.Nat.{ℕ}
-use native.Mathlib.Omega.{arith}
 use Rattle.limits.specs.Refusals.{numberOf, Told, done, refused}
 use Rattle.sheet_lines.specs.Found.{Found, found, offence}
 use Rattle.sheet_lines.specs.Pieces.{foundOf}
@@ -18,11 +17,6 @@ found-by e f = sym e ∙ ap foundOf f
 
 pub beside-by : {A : Type 0} {a : A} {p : Piece} {x : Found A} {v n : ℕ} → beside a p ≡ x → p ≡ piece.Found v n → x ≡ found a n
 beside-by {a} e f = sym e ∙ ap (beside a) f
-
--- ---- an answer
-
-pub not-done : {X : Type 0} {number place : ℕ} → refused number place ≡ done → X
-not-done e = let z : _≡_ {A = ℕ} 0 1 = cc in absurd (omega arith)
 
 -- ---- a reading from the whole
 

@@ -1,11 +1,12 @@
 // Run sheets: from any bytes whatever to a sheet value and an answer, as document 01 says under 'Run sheets'
 // and 'Refusal numbers'.
 ghost use mathlib.Core.Path.{_≡_};
-ghost use Rattle.sheet.specs.Sheets.{noSheet, sheetIn, ReadPromise};
+ghost use Rattle.sheet.specs.Sheets.{sheetIn, ReadPromise};
 ghost use Rattle.sheet.specs.Inside.{stoppedAt, wholeOf};
 use limits::Refusal;
 use sheet_lines::Piece;
 
+mod empty; // empty.rt: a sheet without entries
 mod modules; // modules.rt: the lines of the first section
 mod marks; // marks.rt: those of the second
 mod slots; // slots.rt: those of the third
@@ -39,19 +40,6 @@ pub struct Reading {
     pub sheet: Sheet,
 }
 
-fn no_sheet() -> Sheet
-    ensures { λ r. ⌜ r ≡ noSheet ⌝ }
-{
-    Sheet {
-        n: 0,
-        modules: modules::no_modules(),
-        mark_count: 0,
-        marks: marks::no_marks(),
-        slot_count: 0,
-        slots: slots::no_slots(),
-    }
-}
-
 // What bytes are read as: a sheet and the place after it, or an offence and no sheet.
 struct Whole {
     sheet: Sheet,
@@ -63,7 +51,7 @@ fn stopped(end: Piece) -> Whole
     ensures { λ r. ⌜ r ≡ stoppedAt end ⌝ }
 {
     Whole {
-        sheet: no_sheet(),
+        sheet: empty::no_sheet(),
         end,
     }
 }

@@ -7,6 +7,7 @@ ghost use Rattle.sheet.specs.Marks.{mark, noMark, ascends, allowed, mark
 ghost use Rattle.sheet.specs.Sheets.{noMarks};
 ghost use Rattle.sheet.specs.Inside.{beside, fieldsOf, offenceOf};
 use crate::Mark;
+use crate::empty;
 use limits::Refusal;
 use sheet_lines::Piece;
 
@@ -119,29 +120,13 @@ fn first_offence(n: usize, k: usize, last: Mark, time: usize, seat: usize, kind:
     Check::Bad(Refusal::MarkNotAbove)
 }
 
-fn no_mark() -> Mark
-    ensures { λ r. ⌜ r ≡ noMark ⌝ }
-{
-    Mark {
-        time: 0,
-        seat: 0,
-        kind: 0,
-    }
-}
-
-pub fn no_marks() -> [Mark; limits::MARKS_MOST]
-    ensures { λ r. ⌜ r ≡ noMarks ⌝ }
-{
-    [no_mark(); limits::MARKS_MOST]
-}
-
 // So many mark lines from `start` on, of a ring of n seats.
 pub fn mark_lines(s: &[u8], start: usize, n: usize, count: usize) -> Marks
     requires { ⌜ (count ≤ marksMost) × (0 < n) × (n ≤ seatsMost) ⌝ }
     ensures { λ r. ⌜ beside (r .list) (r .end) ≡ entriesAt (markLine n (now (s .entry))) noMarks count start ⌝ }
 {
-    let mut list = no_marks();
-    let mut last = no_mark();
+    let mut list = empty::no_marks();
+    let mut last = empty::no_mark();
     let mut at = start;
     let mut k: usize = 0;
     while k < count {

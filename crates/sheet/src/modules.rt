@@ -5,6 +5,7 @@ ghost use Rattle.limits.specs.Limits.{seatsMost};
 ghost use Rattle.sheet.specs.Entries.{entriesAt, moduleLine};
 ghost use Rattle.sheet.specs.Sheets.{noModules};
 ghost use Rattle.sheet.specs.Inside.{beside};
+use crate::empty;
 use limits::Refusal;
 use sheet_lines::Piece;
 
@@ -14,18 +15,12 @@ pub struct Modules {
     pub end: Piece,
 }
 
-pub fn no_modules() -> [u16; limits::SEATS_MOST]
-    ensures { λ r. ⌜ r ≡ noModules ⌝ }
-{
-    [0u16; limits::SEATS_MOST]
-}
-
 // So many module lines from `start` on.
 pub fn module_lines(s: &[u8], start: usize, count: usize) -> Modules
     requires { ⌜ count ≤ seatsMost ⌝ }
     ensures { λ r. ⌜ beside (r .list) (r .end) ≡ entriesAt (moduleLine (now (s .entry))) noModules count start ⌝ }
 {
-    let mut list = no_modules();
+    let mut list = empty::no_modules();
     let mut at = start;
     let mut k: usize = 0;
     'lines: while k < count {

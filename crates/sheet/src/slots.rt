@@ -5,6 +5,7 @@ ghost use Rattle.limits.specs.Limits.{slotsMost};
 ghost use Rattle.sheet.specs.Entries.{entriesAt, slotLine};
 ghost use Rattle.sheet.specs.Sheets.{noSlots};
 ghost use Rattle.sheet.specs.Inside.{beside};
+use crate::empty;
 use sheet_lines::Piece;
 
 pub struct Slots {
@@ -12,18 +13,12 @@ pub struct Slots {
     pub end: Piece,
 }
 
-pub fn no_slots() -> [u8; limits::SLOTS_MOST]
-    ensures { λ r. ⌜ r ≡ noSlots ⌝ }
-{
-    [0u8; limits::SLOTS_MOST]
-}
-
 // So many slot lines from `start` on.
 pub fn slot_lines(s: &[u8], start: usize, count: usize) -> Slots
     requires { ⌜ count ≤ slotsMost ⌝ }
     ensures { λ r. ⌜ beside (r .list) (r .end) ≡ entriesAt (slotLine (now (s .entry))) noSlots count start ⌝ }
 {
-    let mut list = no_slots();
+    let mut list = empty::no_slots();
     let mut at = start;
     let mut k: usize = 0;
     while k < count {

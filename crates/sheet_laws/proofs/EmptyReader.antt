@@ -10,7 +10,7 @@ use Rattle.sheet.specs.Entries.{linesAt, isNew, moduleLine, slotLine}
 use Rattle.sheet.specs.Marks.{markOffence, fieldsAt, markLine}
 use Rattle.sheet.specs.Sheets.{noModules, noMarks, noSlots, sheetIn, readTells, readTold}
 use Rattle.sheet.specs.declared.Reading.{Reading}
-use Rattle.sheet.proofs.SheetLaws.{not-done}
+use Rattle.limits.proofs.Refusals.{not-done}
 use Rattle.sheet_laws.specs.EmptyReader.{Reader, Keeps, RefusesAll, Constant}
 
 -- ---- what is said

@@ -13,7 +13,7 @@ use Rattle.sheet.specs.declared.Sheet.{Sheet}
 use Rattle.sheet.specs.declared.ReadAnswer.{ReadAnswer}
 use Rattle.sheet.specs.declared.ReadAnswer.the-variants.{Read, Refused}
 use Rattle.sheet.specs.declared.Reading.{Reading}
-use Rattle.sheet.proofs.SheetLaws.{not-done}
+use Rattle.limits.proofs.Refusals.{not-done}
 
 -- ---- a piece of a line
 

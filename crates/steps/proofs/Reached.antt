@@ -9,6 +9,7 @@ use native.Mathlib.Omega.{arith}
 use lib.Pow.{pow-pos}
 use lib.ListN.{length}
 use Rattle.limits.specs.Refusals.{done, refused}
+use Rattle.limits.proofs.Refusals.{told-is}
 use Rattle.lists.proofs.Counted.{getD-alike}
 use Rattle.seats.proofs.Sets.{full-is}
 use Rattle.ring.specs.Ring.{seatOf, noSeat, freshSeat, zeroRing, freshRing}
@@ -17,7 +18,7 @@ use Rattle.trail.specs.Trail.{roomFor}
 use Rattle.steps.specs.Run.{Marks, Bench, toldOn, stepOn, freshBench, Reached, start, taken, runOn}
 use Rattle.ring.proofs.Checked.{Valid, Member}
 use Rattle.steps.proofs.Drawn.{drawn-seat, undrawn-seat}
-use Rattle.steps.proofs.Taken.{told-is, told-taken, refused-ring, refused-trail, taken-ring, taken-trail}
+use Rattle.steps.proofs.Taken.{told-taken, refused-ring, refused-trail, taken-ring, taken-trail}
 use Rattle.trail.proofs.RecordLaws.{room-bytes}
 use Rattle.steps.proofs.After.{valid-after, length-after}
 

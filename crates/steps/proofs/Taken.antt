@@ -2,13 +2,13 @@
 use mathlib.Core.Path.{_≡_, refl, ap}
 use mathlib.Core.Bool.{Bool, true, false, cond, not}
 use mathlib.Core.List.{List}
-use mathlib.Core.Logic.{_⊎_, inl, inr}
 use Prim.Native.Nat.{ℕ, _+_, _^_, _≤_, _<_}
 use native.Mathlib.Omega.{arith}
 use lib.Dec.{leb, eqb}
 use lib.ListN.{length}
 use borrow.Author.Tests.{leb-true, le-leb, eqb-false, ne-eqb, not-true}
 use Rattle.limits.specs.Refusals.{Told, done, refused}
+use Rattle.limits.proofs.Refusals.{not-done}
 use Rattle.lists.proofs.Tests.{and-true, and-of}
 use Rattle.seats.specs.Sets.{hasSeat, fullSet}
 use Rattle.seats.proofs.Sets.{below-full, full-is}
@@ -29,22 +29,14 @@ pub record Taken (r : Ring) (send : Bool) (receive bytes : ℕ) : Type 0 where
   pub before : r .time < 4096
   pub room : r .records + countIn r (slotOf r send receive) ≤ roomFor bytes
 
--- ---- an answer
-
-pub not-done : {k q : ℕ} → refused k q ≡ done → ⊥
-not-done e = let z : _≡_ {A = ℕ} 0 1 = cc in omega arith
-
--- an answer is one of the two, with the equation
-pub told-is : (t : Told) → (t ≡ done) ⊎ ((k : ℕ) × (q : ℕ) × (t ≡ refused k q))
-told-is done = inl refl
-told-is (refused k q) = inr (k, q, refl)
+-- ---- the checks one after another
 
 passed : (b : Bool) (t : Told) (k q : ℕ) → cond b t (refused k q) ≡ done → (b ≡ true) × (t ≡ done)
 passed true t k q e = (refl, e)
-passed false t k q e = absurd (not-done e)
+passed false t k q e = not-done e
 
 failed : (b : Bool) (t : Told) (k q : ℕ) → cond b (refused k q) t ≡ done → (b ≡ false) × (t ≡ done)
-failed true t k q e = absurd (not-done e)
+failed true t k q e = not-done e
 failed false t k q e = (refl, e)
 
 -- ---- when a step is taken

@@ -1,8 +1,8 @@
 -- `no_marks`: as many empty marks as there is room for. Assumes nothing.
 use borrow.Author.Needs.{needs}
 use Rattle.sheet.specs.Sheets.{noMarks}
-use Rattle.sheet.proofs.marks.no_marks.Statement.{statement}
-use Rattle.sheet.proofs.marks.no_marks.Tie as tie
+use Rattle.sheet.proofs.empty.no_marks.Statement.{statement}
+use Rattle.sheet.proofs.empty.no_marks.Tie as tie
 
 returns : tie.Need-returns
 unfolding noMarks
