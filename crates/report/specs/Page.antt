@@ -11,6 +11,7 @@ use Rattle.limits.specs.declared.Refusal.the-variants.{NotARing}
 use Rattle.seats.specs.Sets.{sizeOf}
 use Rattle.turn.specs.Turn.{out}
 use Rattle.trail.specs.Trail.{recordAt, roomFor}
+use Rattle.trail.specs.declared.Record.{Record}
 use Rattle.ring.specs.Ring.{seatOf}
 use Rattle.ring.specs.Refusals.{Finding, within, outside, unfit}
 use Rattle.ring.specs.declared.Ring.{Ring}
@@ -33,16 +34,19 @@ section k line = lineOf (decimal k ∷ []) ++ joined k line
 
 -- ---- the records: `time holder removed cause`, modules by number
 
-unfoldable pub recordLine : List ℕ → List ℕ → ℕ → List ℕ
-recordLine modules trail k =
-    let written = recordAt trail k in
+-- the line of what a record says
+abbrev pub lineOfRecord : List ℕ → Record → List ℕ
+lineOfRecord modules e =
     lineOf (
-    decimal (written .time)
-    ∷ decimal (getD modules (written .holder) 0)
-    ∷ decimal (getD modules (written .removed) 0)
-    ∷ (written .cause ∷ [])
+    decimal (e .time)
+    ∷ decimal (getD modules (e .holder) 0)
+    ∷ decimal (getD modules (e .removed) 0)
+    ∷ (e .cause ∷ [])
     ∷ []
     )
+
+unfoldable pub recordLine : List ℕ → List ℕ → ℕ → List ℕ
+recordLine modules trail k = lineOfRecord modules (recordAt trail k)
 
 -- ---- the seats in order: `module set-size ack in` or `.. out`, ack as 0 or 1
 
