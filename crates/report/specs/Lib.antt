@@ -1,4 +1,4 @@
--- The files of definitions of the printed page: `Promise` is what `page` promises.
+-- The files of definitions of the printed page: `Promise` is what `print` promises.
 pub mod Inside
 pub mod Page
 pub mod Promise

@@ -1,18 +1,24 @@
 -- The printed page of document 01, 'What the program prints', as the bytes of its text.
-use mathlib.Core.Bool.{cond}
+use mathlib.Core.Bool.{Bool, cond, _&&_}
 use mathlib.Core.List.{List, [], _∷_, _++_}
-use Prim.Native.Nat.{ℕ, _+_, _*_}
-use lib.ListN.{getD}
+use Prim.Native.Nat.{ℕ}
+use lib.Dec.{leb}
+use lib.ListN.{length, getD}
 use Rattle.lists.specs.Counted.{joined}
+use Rattle.limits.specs.Limits.{seatsMost}
+use Rattle.limits.specs.Refusals.{numberOf}
+use Rattle.limits.specs.declared.Refusal.the-variants.{NotARing}
 use Rattle.seats.specs.Sets.{sizeOf}
 use Rattle.turn.specs.Turn.{out}
+use Rattle.trail.specs.Trail.{recordAt, roomFor}
+use Rattle.trail.specs.declared.Record.{Record}
 use Rattle.ring.specs.Ring.{seatOf}
-use Rattle.trail.specs.Trail.{width}
-use Rattle.ring.specs.Refusals.{within, outside, unfit}
+use Rattle.ring.specs.Refusals.{Finding, within, outside, unfit}
 use Rattle.ring.specs.declared.Ring.{Ring}
 use Rattle.text.specs.Ascii.{space, lineFeed}
-use Rattle.run.specs.Outcome.{Heard, agrees, differs, Outcome, ran, refused, Result}
 use Rattle.text.specs.Decimal.{decimal}
+use Rattle.run.specs.Outcome.{Heard, agrees, differs, Outcome, ran, refused, said, Result}
+use Rattle.run.specs.declared.Ran.{Ran}
 
 -- ---- lines
 
@@ -28,17 +34,19 @@ section k line = lineOf (decimal k ∷ []) ++ joined k line
 
 -- ---- the records: `time holder removed cause`, modules by number
 
--- byte j of record k
-abbrev pub byteOf : List ℕ → ℕ → ℕ → ℕ
-byteOf trail k j = getD trail (width * k + j) 0
+-- the line of what a record says
+abbrev pub lineOfRecord : List ℕ → Record → List ℕ
+lineOfRecord modules e =
+    lineOf (
+    decimal (e .time)
+    ∷ decimal (getD modules (e .holder) 0)
+    ∷ decimal (getD modules (e .removed) 0)
+    ∷ (e .cause ∷ [])
+    ∷ []
+    )
 
 unfoldable pub recordLine : List ℕ → List ℕ → ℕ → List ℕ
-recordLine modules trail k =
-    let time = byteOf trail k 0 + 256 * byteOf trail k 1 in
-    let holder = getD modules (byteOf trail k 2) 0 in
-    let removed = getD modules (byteOf trail k 3) 0 in
-    let cause = byteOf trail k 4 in
-    lineOf (decimal time ∷ decimal holder ∷ decimal removed ∷ (cause ∷ []) ∷ [])
+recordLine modules trail k = lineOfRecord modules (recordAt trail k)
 
 -- ---- the seats in order: `module set-size ack in` or `.. out`, ack as 0 or 1
 
@@ -92,12 +100,11 @@ abbrev pub busLine : Heard → List ℕ
 busLine agrees = lineOf (busWord ∷ agreesWord ∷ [])
 busLine (differs t) = lineOf (busWord ∷ differsWord ∷ decimal t ∷ [])
 
--- `faults within` or `faults outside T`
-abbrev pub withinLine : List ℕ
-withinLine = lineOf (faultsWord ∷ withinWord ∷ [])
-
-abbrev pub outsideLine : ℕ → List ℕ
-outsideLine t = lineOf (faultsWord ∷ outsideWord ∷ decimal t ∷ [])
+-- `faults within` or `faults outside T`; a verdict that is refused has no line
+abbrev pub faultsLine : Finding → List ℕ
+faultsLine within = lineOf (faultsWord ∷ withinWord ∷ [])
+faultsLine (outside t) = lineOf (faultsWord ∷ outsideWord ∷ decimal t ∷ [])
+faultsLine (unfit number place) = []
 
 -- ---- the page
 
@@ -117,12 +124,29 @@ recordsAndSeats x = section (x .ring .records) (recordLine (x .modules) (x .trai
 abbrev pub verdict : List ℕ → List ℕ → List ℕ
 verdict bus faults = lineOf (decimal 2 ∷ []) ++ bus ++ faults
 
--- the three sections; a refusal prints its line only
+-- no more seats than a ring can have, and all the records in the trail: so is what any run leaves
+abbrev pub printable : Result → Bool
+printable x = leb (x .ring .n) seatsMost && leb (x .ring .records) (roomFor (length (x .trail)))
+
+-- the three sections; what is no ring is refused 10
+abbrev pub sections : Result → Heard → Finding → List ℕ
+sections x bus finding =
+    cond (printable x) (recordsAndSeats x ++ verdict (busLine bus) (faultsLine finding)) (refusedLine (numberOf NotARing) 0)
+
+-- a run with its two verdicts; one that is refused prints as a refusal does
+abbrev pub ranPage : Result → Heard → Finding → List ℕ
+ranPage x bus within = sections x bus within
+ranPage x bus (outside t) = sections x bus (outside t)
+ranPage x bus (unfit number place) = refusedLine number place
+
+-- a refusal prints its line only
 abbrev pub pageBy : Result → Outcome → List ℕ
-pageBy x (ran bus within) = recordsAndSeats x ++ verdict (busLine bus) withinLine
-pageBy x (ran bus (outside t)) = recordsAndSeats x ++ verdict (busLine bus) (outsideLine t)
-pageBy x (ran bus (unfit number place)) = refusedLine number place
+pageBy x (ran bus finding) = ranPage x bus finding
 pageBy x (refused number place) = refusedLine number place
 
 unfoldable pub pageOf : Result → List ℕ
 pageOf x = pageBy x (x .outcome)
+
+-- what a run gives back, with its trail
+abbrev pub resultOf : Ran → List ℕ → Result
+resultOf r trail = record { outcome = said (r .answer); ring = r .ring; modules = r .modules; trail = trail }

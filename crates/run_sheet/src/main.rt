@@ -9,6 +9,6 @@ fn main() {
     let mut sheet = [0u8; SHEET_READ];
     let got = io::read_full(STDIN_FILENO, &mut sheet);
     let mut page = report::no_page();
-    let length = report::page(&sheet[..got], &mut page);
+    let length = sheet_page::page(&sheet[..got], &mut page);
     io::write_all(STDOUT_FILENO, &page[..length]);
 }

@@ -6,7 +6,8 @@ use native.Mathlib.Omega.{arith}
 use lib.ListN.{length}
 use Rattle.lists.specs.Counted.{joined}
 use Rattle.report.specs.Page.{recordLine}
-use Rattle.report.specs.Inside.{recordMost, Writes}
+use Rattle.report.specs.Promise.{recordMost}
+use Rattle.report.specs.Inside.{Writes}
 use Rattle.report.proofs.Writing.{lines-begin, lines-more, lines-end}
 use Rattle.report.proofs.sections.record_section.Statement.{statement}
 use Rattle.report.proofs.sections.record_section.Tie as tie

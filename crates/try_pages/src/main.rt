@@ -8,7 +8,7 @@ fn say(text: &[u8]) {
 // The page of a sheet's bytes.
 fn show_page(bytes: &[u8]) {
     let mut page = report::no_page();
-    let length = report::page(bytes, &mut page);
+    let length = sheet_page::page(bytes, &mut page);
     say(&page[..length]);
 }
 

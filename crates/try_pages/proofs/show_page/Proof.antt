@@ -4,8 +4,8 @@ use mathlib.Core.Path.{sym}
 use native.Mathlib.Omega.{arith}
 use lib.Seq.{length-take-le}
 use Rattle.report.proofs.PageLaws.{within-buffer}
-use Rattle.vectors.proofs.show_page.Statement.{statement}
-use Rattle.vectors.proofs.show_page.Tie as tie
+use Rattle.try_pages.proofs.show_page.Statement.{statement}
+use Rattle.try_pages.proofs.show_page.Tie as tie
 
 array-share-prefix-page : tie.Need-array-share-prefix-page
 array-share-prefix-page c = let h = within-buffer _ _ _ _ (c .before .page2 .ensures) in omega arith

@@ -1,0 +1,2 @@
+-- The file of laws that the proof of `page` cites.
+pub mod Texts
