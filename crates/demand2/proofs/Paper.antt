@@ -10,6 +10,7 @@ use native.Mathlib.Omega.{arith}
 use lib.Dec.{eqb, ltb}
 use lib.ListN.{replicate}
 use borrow.Author.Tests.{eq-eqb, ne-eqb, ltb-true, ltb-false}
+use Rattle.limits.specs.Limits.{seatsLeast, seatsMost}
 use Rattle.limits.specs.Refusals.{done}
 use Rattle.lists.proofs.Tests.{both}
 use Rattle.seats.specs.Sets.{hasSeat}
@@ -54,12 +55,12 @@ OutStays = (r : Ring) (m : Marks) (t : List ℕ) (s : Stepped) (t′ : List ℕ)
 
 -- along any run, a seat's doubt is true exactly when the last slot that it expected was its own and its bit before that slot was false
 abbrev pub DoubtSays : Type 0
-DoubtSays = (n : ℕ) (trail : List ℕ) → 2 ≤ n → n ≤ 32 → (b : Bench) (w : Reached n trail b) → (p : ℕ) → p < n
+DoubtSays = (n : ℕ) (trail : List ℕ) → seatsLeast ≤ n → n ≤ seatsMost → (b : Bench) (w : Reached n trail b) → (p : ℕ) → p < n
     → seatOf (b .ring) p .doubt ≡ sentFalse p (history w)
 
 -- so every step taken of any run is the paper's, footnote and all
 abbrev pub PaperRun : Type 0
-PaperRun = (n : ℕ) (trail : List ℕ) → 2 ≤ n → n ≤ 32 → (b : Bench) (w : Reached n trail b) (m : Marks) → toldOn m b ≡ done
+PaperRun = (n : ℕ) (trail : List ℕ) → seatsLeast ≤ n → n ≤ seatsMost → (b : Bench) (w : Reached n trail b) (m : Marks) → toldOn m b ≡ done
     → (p : ℕ) → p < n → membership (b .ring) p p ≡ true → Holds (seatOf (stepOn m b .ring) p) (updated (b .ring) m (sentFalse p (history w)) p)
 
 -- the causes that a deciding seat's row of the table gives are the paper's cases: a to d by their letters, e for the footnote

@@ -8,6 +8,7 @@ use native.Mathlib.Nat.{add-zero, mul-le-mul}
 use native.Mathlib.Omega.{arith}
 use lib.ListN.{length, replicate}
 use borrow.Author.Tests.{eq-eqb, ne-eqb}
+use Rattle.limits.specs.Limits.{seatsLeast, seatsMost}
 use Rattle.limits.specs.Refusals.{Told, done, refused}
 use Rattle.lists.specs.Counted.{sum}
 use Rattle.lists.proofs.Counted.{sum-same, sum-plus, sum-const}
@@ -43,15 +44,15 @@ pub record SumIsN (n : ℕ) (b : Bench) : Type 0 where
 
 -- at every moment of a run from a fresh ring, whether its steps are taken or refused
 abbrev pub SumAlways : Type 0
-SumAlways = (n : ℕ) (trail : List ℕ) → 2 ≤ n → n ≤ 32 → (ms : List Marks) → SumIsN n (runOn ms (freshBench n trail))
+SumAlways = (n : ℕ) (trail : List ℕ) → seatsLeast ≤ n → n ≤ seatsMost → (ms : List Marks) → SumIsN n (runOn ms (freshBench n trail))
 
 -- no run writes more than n times n records
 abbrev pub AtMostSquare : Type 0
-AtMostSquare = (n : ℕ) (trail : List ℕ) → 2 ≤ n → n ≤ 32 → (ms : List Marks) → runOn ms (freshBench n trail) .ring .records ≤ n * n
+AtMostSquare = (n : ℕ) (trail : List ℕ) → seatsLeast ≤ n → n ≤ seatsMost → (ms : List Marks) → runOn ms (freshBench n trail) .ring .records ≤ n * n
 
 -- a buffer for n times n records is never refused 8
 abbrev pub NeverEight : Type 0
-NeverEight = (n : ℕ) (trail : List ℕ) → 2 ≤ n → n ≤ 32 → width * (n * n) ≤ length trail
+NeverEight = (n : ℕ) (trail : List ℕ) → seatsLeast ≤ n → n ≤ seatsMost → width * (n * n) ≤ length trail
     → (ms : List Marks) (m : Marks) (place : ℕ) → toldOn m (runOn ms (freshBench n trail)) ≡ refused 8 place → ⊥
 
 -- ---- one step keeps both sums
@@ -116,7 +117,7 @@ fresh-sum n trail h =
           omega arith;
     }
 
-module _ (n : ℕ) (trail : List ℕ) (low : 2 ≤ n) (high : n ≤ 32) where
+module _ (n : ℕ) (trail : List ℕ) (low : seatsLeast ≤ n) (high : n ≤ seatsMost) where
   pub reached-sum : {b : Bench} → Reached n trail b → SumIsN n b
   reached-sum = reached-elim n trail low high (SumIsN n) (fresh-sum n trail high) (step-sum n (length trail))
 

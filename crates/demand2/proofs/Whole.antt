@@ -9,6 +9,7 @@ use native.Mathlib.Omega.{arith}
 use lib.Dec.{ltb}
 use lib.ListN.{length}
 use borrow.Author.Tests.{ltb-true, ltb-false}
+use Rattle.limits.specs.Limits.{seatsLeast, seatsMost}
 use Rattle.limits.specs.Refusals.{done}
 use Rattle.lists.proofs.Tests.{both}
 use Rattle.seats.specs.Sets.{hasSeat}
@@ -36,7 +37,7 @@ use Rattle.demand2.proofs.Story.{story-after}
 -- ---- what is said
 
 abbrev pub WholeStoryAlways : Type 0
-WholeStoryAlways = (n : ℕ) (trail : List ℕ) → 2 ≤ n → n ≤ 32 → (ms : List Marks) → WholeStory n (runOn ms (freshBench n trail))
+WholeStoryAlways = (n : ℕ) (trail : List ℕ) → seatsLeast ≤ n → n ≤ seatsMost → (ms : List Marks) → WholeStory n (runOn ms (freshBench n trail))
 
 -- ---- one step
 

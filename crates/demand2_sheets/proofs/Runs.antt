@@ -3,6 +3,7 @@ use mathlib.Core.Path.{_≡_, refl, sym, ap}
 use mathlib.Core.Bool.{true}
 use mathlib.Core.List.{List}
 use Prim.Native.Nat.{ℕ, _*_, _≤_, _<_}
+use Rattle.limits.specs.Limits.{seatsLeast, seatsMost}
 use Rattle.limits.specs.Refusals as limits
 use Rattle.lists.specs.Counted.{tab}
 use Rattle.ring.specs.Ring.{seatOf}
@@ -43,7 +44,7 @@ pub record RunHolds (sheet : Sheet) (trail : List ℕ) (x : Result) : Type 0 whe
 
 -- ---- a step
 
-step-holds : (n : ℕ) (trail : List ℕ) → 2 ≤ n → n ≤ 32 → (b : Bench) (w : Reached n trail b) (m : Marks) → toldOn m b ≡ limits.done → StepHolds n trail b w m
+step-holds : (n : ℕ) (trail : List ℕ) → seatsLeast ≤ n → n ≤ seatsMost → (b : Bench) (w : Reached n trail b) (m : Marks) → toldOn m b ≡ limits.done → StepHolds n trail b w m
 step-holds n trail low high b w m e = record {
   paper = paper-run n trail low high b w m e;
   story = story.one-story (b .ring) (m .send) (m .receive) (b .trail) (record { answer = Taken; ring = stepOn m b .ring }) (stepOn m b .trail)

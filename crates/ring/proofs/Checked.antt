@@ -7,7 +7,7 @@ use native.Mathlib.Nat.{mod-lt}
 use native.Mathlib.Omega.{arith}
 use lib.Dec.{leb, ltb}
 use borrow.Author.Tests.{leb-true, le-leb, lt-ltb, le-ltb, ltb-true, ltb-false, eqb-true, not-true}
-use Rattle.limits.specs.Limits.{seatsStand}
+use Rattle.limits.specs.Limits.{seatsStand, seatsLeast, seatsMost, slotsMost}
 use Rattle.lists.proofs.Tests.{both, and-true, and-of, all-at, all-from}
 use Rattle.seats.proofs.Sets.{below-full, full-is}
 use Rattle.seats.specs.Sets.{fullSet}
@@ -18,12 +18,12 @@ pub use Rattle.ring.specs.Valid.{Member, Valid}
 
 -- ---- one seat
 
-pub member-of : (n time : ℕ) (s : Seat) → n ≤ 32 → memberStands n time s ≡ true → Member n time s
+pub member-of : (n time : ℕ) (s : Seat) → n ≤ seatsMost → memberStands n time s ≡ true → Member n time s
 member-of n time s h e =
     let a = and-true _ _ e in
     record { inside = below-full (s .set) n h (leb-true _ _ (a .0)); past = leb-true _ _ (a .1) }
 
-pub member-stands : (n time : ℕ) (s : Seat) → n ≤ 32 → Member n time s → memberStands n time s ≡ true
+pub member-stands : (n time : ℕ) (s : Seat) → n ≤ seatsMost → Member n time s → memberStands n time s ≡ true
 member-stands n time s h m =
     let f = full-is n h in
     let l = m .inside in
@@ -45,22 +45,22 @@ absent-stands s e = ap absentStands e
 
 -- ---- the ring
 
-every-at : (r : Ring) (p : ℕ) → everySeatStands r ≡ true → p < 32 → seatStands (r .n) (r .time) p (seatOf r p) ≡ true
+every-at : (r : Ring) (p : ℕ) → everySeatStands r ≡ true → p < seatsMost → seatStands (r .n) (r .time) p (seatOf r p) ≡ true
 unfolding everySeatStands
-every-at r p e l = all-at (λ q. seatStands (r .n) (r .time) q (seatOf r q)) 32 p e l
+every-at r p e l = all-at (λ q. seatStands (r .n) (r .time) q (seatOf r q)) seatsMost p e l
 
-every-from : (r : Ring) → ((p : ℕ) → p < 32 → seatStands (r .n) (r .time) p (seatOf r p) ≡ true) → everySeatStands r ≡ true
+every-from : (r : Ring) → ((p : ℕ) → p < seatsMost → seatStands (r .n) (r .time) p (seatOf r p) ≡ true) → everySeatStands r ≡ true
 unfolding everySeatStands
-every-from r h = all-from (λ q. seatStands (r .n) (r .time) q (seatOf r q)) 32 h
+every-from r h = all-from (λ q. seatStands (r .n) (r .time) q (seatOf r q)) seatsMost h
 
 pub ring-valid : (r : Ring) (room : ℕ) → isRing r room ≡ true → Valid r room
 unfolding isRing
 ring-valid r room e =
-    let a = and-true (seatsStand (r .n) && leb (r .time) 4096 && leb (r .records) room) (everySeatStands r) e in
-    let b = and-true (seatsStand (r .n) && leb (r .time) 4096) (leb (r .records) room) (a .0) in
-    let c = and-true (seatsStand (r .n)) (leb (r .time) 4096) (b .0) in
-    let d = and-true (leb 2 (r .n)) (leb (r .n) 32) (c .0) in
-    let most = leb-true (r .n) 32 (d .1) in
+    let a = and-true (seatsStand (r .n) && leb (r .time) slotsMost && leb (r .records) room) (everySeatStands r) e in
+    let b = and-true (seatsStand (r .n) && leb (r .time) slotsMost) (leb (r .records) room) (a .0) in
+    let c = and-true (seatsStand (r .n)) (leb (r .time) slotsMost) (b .0) in
+    let d = and-true (leb seatsLeast (r .n)) (leb (r .n) seatsMost) (c .0) in
+    let most = leb-true (r .n) seatsMost (d .1) in
     record {
       least = leb-true _ _ (d .0);
       most = most;

@@ -5,6 +5,7 @@ use mathlib.Core.List.{List}
 use Prim.Native.Nat.{ℕ, _+_}
 use lib.Dec.{leb, eqb}
 use lib.ListN.{length}
+use Rattle.limits.specs.Limits.{slotsMost}
 use Rattle.limits.specs.Refusals.{numberOf, Told, done, refused}
 use Rattle.limits.specs.declared.Refusal.the-variants.{WrongMark, NoRoom, AtTheEnd, NotARing}
 use Rattle.trail.specs.Trail.{roomFor}
@@ -26,16 +27,16 @@ module _ (r : Ring) (send : Bool) (receive bytes : ℕ) where
     wrong-mark b = rw (ring, b)
 
     module _ (marks : marksStand (r .n) (slotOf r send receive) ≡ true) where
-      pub at-the-end : eqb (r .time) 4096 ≡ true → stepTold r send receive bytes ≡ refused (numberOf AtTheEnd) 4096
+      pub at-the-end : eqb (r .time) slotsMost ≡ true → stepTold r send receive bytes ≡ refused (numberOf AtTheEnd) slotsMost
       unfolding stepTold
       at-the-end d = rw (ring, marks, d)
 
-      pub no-room : eqb (r .time) 4096 ≡ false → leb (r .records + countIn r (slotOf r send receive)) (roomFor bytes) ≡ false
+      pub no-room : eqb (r .time) slotsMost ≡ false → leb (r .records + countIn r (slotOf r send receive)) (roomFor bytes) ≡ false
           → stepTold r send receive bytes ≡ refused (numberOf NoRoom) (r .time)
       unfolding stepTold
       no-room d e = rw (ring, marks, d, e)
 
-      pub all-checked : eqb (r .time) 4096 ≡ false → leb (r .records + countIn r (slotOf r send receive)) (roomFor bytes) ≡ true
+      pub all-checked : eqb (r .time) slotsMost ≡ false → leb (r .records + countIn r (slotOf r send receive)) (roomFor bytes) ≡ true
           → stepTold r send receive bytes ≡ done
       unfolding stepTold
       all-checked d e = rw (ring, marks, d, e)

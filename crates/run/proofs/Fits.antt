@@ -5,6 +5,7 @@ use mathlib.Core.Logic.{⊎-elim}
 use Prim.Native.Nat.{ℕ, _*_, _≤_}
 use native.Mathlib.Omega.{arith}
 use lib.ListN.{length}
+use Rattle.limits.specs.Limits.{seatsMost, roomMost}
 use Rattle.limits.specs.Refusals.{numberOf}
 use Rattle.lists.specs.Counted.{tab}
 use Rattle.limits.specs.declared.Refusal.{Refusal}
@@ -26,8 +27,8 @@ use Rattle.run.proofs.Story.{benchAt, run-story}
 -- ---- what is said
 
 pub record Fits (x : Result) : Type 0 where
-  pub seats : x .ring .n ≤ 32
-  pub few : x .ring .records ≤ 1024
+  pub seats : x .ring .n ≤ seatsMost
+  pub few : x .ring .records ≤ roomMost
   pub bytes : width * x .ring .records ≤ length (x .trail)
 
 -- ---- the last ring of a run

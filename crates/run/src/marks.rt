@@ -1,6 +1,7 @@
 // The marks of a slot, gathered as the run goes on: the marks of a sheet ascend by time, so that the place in them only moves forward.
 ghost use mathlib.Core.Path.{_≡_};
 ghost use Prim.Native.Nat.{_<_};
+ghost use Rattle.limits.specs.Limits.{seatsMost, marksMost};
 ghost use Rattle.seats.specs.Joined.{added};
 ghost use Rattle.run.specs.Inside.{noneGathered, withMark, slotOver, givenBy};
 use sheet::Mark;
@@ -32,7 +33,7 @@ pub fn none_gathered() -> Gathered
 
 // The set with the seat in it too, where that is so.
 fn with_seat(set: u32, seat: usize, marked: bool) -> u32
-    requires { ⌜ seat < 32 ⌝ }
+    requires { ⌜ seat < seatsMost ⌝ }
     ensures { λ r. ⌜ r ≡ added set seat marked ⌝ }
 {
     if marked { set | (1 << seat) } else { set }
@@ -40,7 +41,7 @@ fn with_seat(set: u32, seat: usize, marked: bool) -> u32
 
 // One mark more of this slot.
 pub fn with_mark(g: Gathered, mark: Mark) -> Gathered
-    requires { ⌜ (g .next < 256) × (mark .seat < 32) ⌝ }
+    requires { ⌜ (g .next < marksMost) × (mark .seat < seatsMost) ⌝ }
     ensures { λ r. ⌜ r ≡ withMark g mark ⌝ }
 {
     let seat = mark.seat as usize;

@@ -6,6 +6,7 @@ use Prim.Native.Nat.{ℕ, _+_, _*_, _≤_, _<_}
 use native.Mathlib.Nat.{le-refl}
 use native.Mathlib.Omega.{arith}
 use lib.ListN.{length}
+use Rattle.limits.specs.Limits.{slotsMost}
 use Rattle.ring.specs.Ring.{seatOf}
 use Rattle.turn.specs.Turn.{turnOf}
 use Rattle.ring.specs.Step.{slotOf, turnAt, countIn, ringAfter, trailAfter}
@@ -36,7 +37,7 @@ length-after r c t l = length-written r c t (r .records) l (r .n) (le-refl (r .n
 
 -- ---- a ring leads to a ring
 
-pub valid-after : (r : Ring) (send : Bool) (receive room : ℕ) → Valid r room → r .time < 4096
+pub valid-after : (r : Ring) (send : Bool) (receive room : ℕ) → Valid r room → r .time < slotsMost
     → r .records + countIn r (slotOf r send receive) ≤ room → Valid (ringAfter r (slotOf r send receive)) room
 valid-after r send receive room v early fit =
     let c = slotOf r send receive in

@@ -8,6 +8,7 @@ use native.Mathlib.Nat.{le-refl}
 use native.Mathlib.Omega.{arith}
 use lib.Pow.{pow-pos}
 use lib.ListN.{length}
+use Rattle.limits.specs.Limits.{seatsLeast, seatsMost}
 use Rattle.limits.specs.Refusals.{done, refused}
 use Rattle.limits.proofs.Refusals.{told-is}
 use Rattle.lists.proofs.Counted.{getD-alike}
@@ -42,13 +43,13 @@ fresh-seat n = drawn-seat n zeroRing (λ q. freshSeat n)
 
 zero-seat : (p : ℕ) → seatOf zeroRing p ≡ noSeat
 unfolding zeroRing
-zero-seat p = rw (getD-alike {A = ℕ} 32 p 0, getD-alike {A = Bool} 32 p false)
+zero-seat p = rw (getD-alike {A = ℕ} seatsMost p 0, getD-alike {A = Bool} seatsMost p false)
 
 pub fresh-beyond : (n p : ℕ) → n ≤ p → seatOf (freshRing n) p ≡ noSeat
 unfolding freshRing
 fresh-beyond n p l = undrawn-seat n zeroRing (λ q. freshSeat n) p l ∙ zero-seat p
 
-pub fresh-valid : (n room : ℕ) → 2 ≤ n → n ≤ 32 → Valid (freshRing n) room
+pub fresh-valid : (n room : ℕ) → seatsLeast ≤ n → n ≤ seatsMost → Valid (freshRing n) room
 fresh-valid n room l h =
     let e = full-is n h in
     let z = pow-pos n in
@@ -97,7 +98,7 @@ step-stands n bytes m b s e =
       kept = length-after (b .ring) c (b .trail) (room-bytes _ _ (t .room)) ∙ s .kept;
     }
 
-module _ (n : ℕ) (trail : List ℕ) (low : 2 ≤ n) (high : n ≤ 32) where
+module _ (n : ℕ) (trail : List ℕ) (low : seatsLeast ≤ n) (high : n ≤ seatsMost) where
   pub start-stands : Stands n (length trail) (freshBench n trail)
   start-stands = record { valid = fresh-valid n (roomFor (length trail)) low high; seats = fresh-n n; kept = refl }
 

@@ -7,7 +7,9 @@ use native.Mathlib.Omega.{arith}
 use lib.Dec.{leb, eqb}
 use lib.ListN.{length}
 use borrow.Author.Tests.{leb-true, le-leb, eqb-false, ne-eqb, not-true}
-use Rattle.limits.specs.Refusals.{Told, done, refused}
+use Rattle.limits.specs.Limits.{slotsMost}
+use Rattle.limits.specs.Refusals.{numberOf, Told, done, refused}
+use Rattle.limits.specs.declared.Refusal.the-variants.{WrongMark, NoRoom, AtTheEnd, NotARing}
 use Rattle.limits.proofs.Refusals.{not-done}
 use Rattle.lists.proofs.Tests.{and-true, and-of}
 use Rattle.seats.specs.Sets.{hasSeat, fullSet}
@@ -26,7 +28,7 @@ pub record Taken (r : Ring) (send : Bool) (receive bytes : ℕ) : Type 0 where
   pub valid : Valid r (roomFor bytes)
   pub within : receive < 2 ^ r .n
   pub others : hasSeat receive (ownerOf r) ≡ false
-  pub before : r .time < 4096
+  pub before : r .time < slotsMost
   pub room : r .records + countIn r (slotOf r send receive) ≤ roomFor bytes
 
 -- ---- the checks one after another
@@ -45,13 +47,13 @@ module _ (r : Ring) (send : Bool) (receive bytes : ℕ) where
   pub told-taken : stepTold r send receive bytes ≡ done → Taken r send receive bytes
   unfolding stepTold
   told-taken e =
-      let a = passed (isRing r (roomFor bytes)) _ 10 0 e in
+      let a = passed (isRing r (roomFor bytes)) _ (numberOf NotARing) 0 e in
       let v = ring-valid r (roomFor bytes) (a .0) in
-      let b = passed (marksStand (r .n) (slotOf r send receive)) _ 6 (r .time) (a .1) in
+      let b = passed (marksStand (r .n) (slotOf r send receive)) _ (numberOf WrongMark) (r .time) (a .1) in
       let m = and-true _ _ (b .0) in
-      let c = failed (eqb (r .time) 4096) _ 9 4096 (b .1) in
-      let d = passed (leb (r .records + countIn r (slotOf r send receive)) (roomFor bytes)) done 8 (r .time) (c .1) in
-      let n = eqb-false (r .time) 4096 (c .0) in
+      let c = failed (eqb (r .time) slotsMost) _ (numberOf AtTheEnd) slotsMost (b .1) in
+      let d = passed (leb (r .records + countIn r (slotOf r send receive)) (roomFor bytes)) done (numberOf NoRoom) (r .time) (c .1) in
+      let n = eqb-false (r .time) slotsMost (c .0) in
       let l = v .soon in
       record {
         valid = v;
@@ -67,7 +69,7 @@ module _ (r : Ring) (send : Bool) (receive bytes : ℕ) where
       let l = t .within in
       let m : marksStand (r .n) (slotOf r send receive) ≡ true = and-of (le-leb receive (fullSet (r .n)) (omega arith)) (ap not (t .others)) in
       let b = t .before in
-      all-checked r send receive bytes (valid-ring r (roomFor bytes) (t .valid)) m (ne-eqb (r .time) 4096 (omega arith)) (le-leb _ _ (t .room))
+      all-checked r send receive bytes (valid-ring r (roomFor bytes) (t .valid)) m (ne-eqb (r .time) slotsMost (omega arith)) (le-leb _ _ (t .room))
 
 -- ---- what it gives
 

@@ -166,7 +166,7 @@ fn marks_and_ends() {
     r.time = 4096;
     report(b"time 4,096", r.step(false, 0, &mut trail));
     report(b"time 4,096 and a wrong mark", r.step(false, 1, &mut trail));
-    r.records = 1024;
+    r.records = limits::ROOM_MOST as u16;
     report(b"time 4,096 and a full trail", r.step(true, 0, &mut trail));
     r.n = 33;
     report(b"not a ring and a wrong mark", r.step(false, 1, &mut trail));
@@ -192,7 +192,7 @@ fn starts_and_verdicts() {
     r.time = 9;
     r.faults[0] = 3;
     report_verdict(b"one sound seat of a ring of 2", r.verdict());
-    r.records = 1025;
+    r.records = limits::ROOM_MOST as u16 + 1;
     report_verdict(b"verdict with 1,025 records", r.verdict());
 }
 
