@@ -1,4 +1,5 @@
--- What the line of a record says of the record as it was written: its time, holder, removed seat and cause. Assumes nothing.
+-- What the line of a record says of the record as it was written: its time, holder, removed seat and cause.
+-- Assumes nothing.
 use mathlib.Core.Path.{_≡_, ap}
 use mathlib.Core.List.{List, [], _∷_}
 use Prim.Native.Nat.{ℕ, _+_, _*_, _≤_}
