@@ -1,4 +1,5 @@
--- The page by the answer of a run, what `print` promises from what is written, and what callers need of it. Assumes nothing.
+-- What can be printed, the page by the answer of a run, what `print` promises from what is written, and what
+-- callers need of it. Assumes nothing.
 use mathlib.Core.Path.{_≡_, refl, sym, ap, _∙_}
 use mathlib.Core.Bool.{true, false}
 use mathlib.Core.List.{List, _++_, append-assoc}

@@ -1,4 +1,5 @@
--- Laws of what writes a text, specs/Inside.antt: a byte, a word, a number; one text after another; the lines of a section. Assumes nothing.
+-- Laws of what writes a text, specs/Inside.antt: a byte, a word, a number; one text after another; the lines of
+-- a section. Assumes nothing.
 use mathlib.Core.Path.{_≡_, refl, sym, ap, _∙_}
 use mathlib.Core.List.{List, [], _∷_, _++_}
 use Prim.Native.Nat.{ℕ, _+_, _*_, _≤_}

@@ -11,7 +11,8 @@ use Rattle.text.specs.declared.Place.{Place}
 use Rattle.report.specs.Page.{lineOf, recordsAndSeats}
 use Rattle.report.specs.Promise.{recordMost}
 
--- the most bytes in the line of a count, of a seat and in the two verdict lines: no number in them has more than five digits
+-- the most bytes in the line of a count, of a seat and in the two verdict lines: no number in them has more than
+-- five digits
 abbrev pub countMost : ℕ
 countMost = 6
 

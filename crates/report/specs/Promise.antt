@@ -12,7 +12,8 @@ use Rattle.report.specs.Page.{pageOf, resultOf}
 
 -- ---- sizes
 
--- the most bytes in the line of a record: three numbers of at most five digits, a letter, three spaces and a line feed
+-- the most bytes in the line of a record: three numbers of at most five digits, a letter, three spaces and a
+-- line feed
 abbrev pub recordMost : ℕ
 recordMost = 20
 

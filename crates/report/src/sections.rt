@@ -73,7 +73,7 @@ fn up_to_faults(page: &mut [u8], place: Place, ran: Ran, trail: &[u8], bus: Bus)
     lines::bus_line(page, c, bus)
 }
 
-// No more seats than a ring can have, and all the records in the trail: what a run leaves is so, and a value of the
+// No more seats than a ring can have, and all the records in the trail. What a run leaves is so; a value of the
 // same type that no run gives need not be.
 fn printable(ran: Ran, trail: &[u8]) -> bool
     ensures { λ r. ⌜ r ≡ printable (resultOf ran (now (trail .entry))) ⌝ }

@@ -1,4 +1,5 @@
--- The example of document 01 printed whole from its sheet, by computation; and the lines that it does not have. Assumes nothing.
+-- The example of document 01 printed whole from its sheet, by computation; and the lines that it does not have.
+-- Assumes nothing.
 use mathlib.Core.Path.{_≡_, refl}
 use mathlib.Core.List.{[], _∷_, _++_}
 use lib.Count.{onesIn}

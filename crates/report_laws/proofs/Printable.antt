@@ -1,4 +1,4 @@
--- What the run of a sheet leaves can be printed: so a page is refused only where the run is. Assumes nothing.
+-- What the run of a sheet leaves can be printed, so its three sections stand on the page. Assumes nothing.
 use mathlib.Core.Path.{_≡_}
 use mathlib.Core.Bool.{true}
 use mathlib.Core.List.{List, _++_}

@@ -1,5 +1,5 @@
--- No two results keep the promise of `print` or of `page`, nor that of what writes into a lent buffer; and in a buffer of the most that
--- a page has, the page stands whole. Assumes nothing.
+-- No two results keep the promise of `print` or of `page`, nor that of what writes into a lent buffer; and in a
+-- buffer of the most that a page has, the page stands whole. Assumes nothing.
 use mathlib.Core.Path.{_≡_, sym, ap, _∙_}
 use mathlib.Core.List.{List}
 use Prim.Native.Nat.{ℕ, _≤_}
