@@ -4,3 +4,4 @@ pub mod Example
 pub mod Printable
 pub mod Printed
 pub mod Unique
+pub mod Pages
