@@ -1,4 +1,5 @@
--- The five empty programs of document 01 (specs/Empty.antt): none keeps the promise of `step`, not even on the benches of runs.
+-- The five empty programs of document 01 (specs/Empty.antt): none keeps the promise of `step`, not even on
+-- the benches of runs.
 use mathlib.Core.Path.{_≡_, refl, sym, ap, _∙_, subst}
 use mathlib.Core.Bool.{Bool, false, cond}
 use mathlib.Core.List.{[]}

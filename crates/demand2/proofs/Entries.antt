@@ -1,4 +1,5 @@
--- The records of a step in the trail after it: those before them are as they were, and they are read back as written. Assumes nothing.
+-- The records of a step in the trail after it: those before them are as they were, and they are read back as
+-- written. Assumes nothing.
 use mathlib.Core.Path.{_≡_, sym, _∙_}
 use mathlib.Core.List.{List}
 use mathlib.Core.Logic.{_⊎_, ⊎-elim, inl, inr}

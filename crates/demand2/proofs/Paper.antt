@@ -1,6 +1,7 @@
--- Demand 2's protocol: a step taken gives every seat in its own set the membership set and the acknowledgement bit of document 002 as corrected
--- in its footnote 4 (specs/Paper.antt), and changes nothing of a seat outside its own set. The doubt bit stands for the footnote's words 'was
--- the previous broadcaster and sent a false ack', and along any run it says just that.
+-- Demand 2's protocol: a step taken gives every seat in its own set the membership set and the
+-- acknowledgement bit of document 002 as corrected in its footnote 4 (specs/Paper.antt), and changes nothing
+-- of a seat outside its own set. The doubt bit stands for the footnote's words 'was the previous broadcaster
+-- and sent a false ack', and along any run it says just that.
 use mathlib.Core.Path.{_≡_, refl, sym, ap, _∙_, subst}
 use mathlib.Core.Bool.{Bool, true, false, cond, not, _&&_, true≢false, _||_}
 use mathlib.Core.List.{List}
@@ -43,7 +44,8 @@ pub record Holds (s : Seat) (u : Updated) : Type 0 where
   pub membership : (q : ℕ) → hasSeat (s .set) q ≡ u .membership q
   pub ack : s .ack ≡ u .ack
 
--- for every step that keeps the engine's promise and is taken: a seat in its own set has the paper's, its doubt standing for the footnote's words
+-- for every step that keeps the engine's promise and is taken: a seat in its own set has the paper's, its
+-- doubt standing for the footnote's words
 abbrev pub PaperStep : Type 0
 PaperStep = (r : Ring) (m : Marks) (t : List ℕ) (s : Stepped) (t′ : List ℕ) → StepPromise r (m .send) (m .receive) t s t′ → stepTells (s .answer) ≡ done
     → (p : ℕ) → p < r .n → membership r p p ≡ true → Holds (seatOf (s .ring) p) (updated r m (seatOf r p .doubt) p)
@@ -53,7 +55,8 @@ abbrev pub OutStays : Type 0
 OutStays = (r : Ring) (m : Marks) (t : List ℕ) (s : Stepped) (t′ : List ℕ) → StepPromise r (m .send) (m .receive) t s t′ → stepTells (s .answer) ≡ done
     → (p : ℕ) → membership r p p ≡ false → seatOf (s .ring) p ≡ seatOf r p
 
--- along any run, a seat's doubt is true exactly when the last slot that it expected was its own and its bit before that slot was false
+-- along any run, a seat's doubt is true exactly when the last slot that it expected was its own and its bit
+-- before that slot was false
 abbrev pub DoubtSays : Type 0
 DoubtSays = (n : ℕ) (trail : List ℕ) → seatsLeast ≤ n → n ≤ seatsMost → (b : Bench) (w : Reached n trail b) → (p : ℕ) → p < n
     → seatOf (b .ring) p .doubt ≡ sentFalse p (history w)
@@ -63,12 +66,14 @@ abbrev pub PaperRun : Type 0
 PaperRun = (n : ℕ) (trail : List ℕ) → seatsLeast ≤ n → n ≤ seatsMost → (b : Bench) (w : Reached n trail b) (m : Marks) → toldOn m b ≡ done
     → (p : ℕ) → p < n → membership (b .ring) p p ≡ true → Holds (seatOf (stepOn m b .ring) p) (updated (b .ring) m (sentFalse p (history w)) p)
 
--- the causes that a deciding seat's row of the table gives are the paper's cases: a to d by their letters, e for the footnote
+-- the causes that a deciding seat's row of the table gives are the paper's cases: a to d by their letters, e
+-- for the footnote
 abbrev pub PaperCauses : Type 0
 PaperCauses = (r : Ring) (m : Marks) (p : ℕ) → membership r p (broadcaster r) ≡ true
     → rowOf r (slotOf r (m .send) (m .receive)) p .removed ≡ does (knowsIn r m (seatOf r p .doubt) p) .causes
 
--- the paper's own remark on the rules as they stand before the footnote: the updated ack is true where p retains b
+-- the paper's own remark on the rules as they stand before the footnote: the updated ack is true where p
+-- retains b
 abbrev pub AckRetains : Type 0
 AckRetains = (k : Knows) → does k .ack ≡ not (caseC k || caseD k)
 
@@ -214,7 +219,8 @@ run₂ : Reached 3 (replicate 45 0) bench₂
 unfolding bench₀ bench₂ ringOf trailOf stepTold isRing everySeatStands freshRing zeroRing turnOf
 run₂ = taken (taken start (missedBy 1) refl) quiet refl
 
--- at time 2 it is in its own set, and has sent a false ack in its own slot; by the footnote it leaves, and would stay without it
+-- at time 2 it is in its own set, and has sent a false ack in its own slot; by the footnote it leaves, and
+-- would stay without it
 doubts : (toldOn quiet bench₂ ≡ done)
     × (membership (bench₂ .ring) 1 1 ≡ true)
     × (sentFalse 1 (history run₂) ≡ true)

@@ -1,5 +1,5 @@
--- Demand 1 for a step: each step is answered as document 01's table says, with that answer alone, and a refused one leaves the ring and
--- every byte of the trail as they came.
+-- Demand 1 for a step: each step is answered as document 01's table says, with that answer alone, and a
+-- refused one leaves the ring and every byte of the trail as they came.
 use mathlib.Core.Path.{_≡_, refl, sym, ap, _∙_, subst}
 use mathlib.Core.Bool.{Bool, true, false, true≢false, false≢true, not-eq-not}
 use mathlib.Core.List.{List}

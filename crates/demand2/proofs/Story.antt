@@ -1,4 +1,5 @@
--- One record for each removal and none besides: for every step taken, its sets and its records tell one story (specs/Story.antt).
+-- One record for each removal and none besides: for every step taken, its sets and its records tell one story
+-- (specs/Story.antt).
 use mathlib.Core.Path.{_≡_, refl, sym, ap, _∙_, subst}
 use mathlib.Core.Bool.{Bool, true, false}
 use mathlib.Core.List.{List, [], _∷_}

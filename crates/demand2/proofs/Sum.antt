@@ -1,5 +1,6 @@
--- The sum of document 01: from a fresh ring, with one buffer lent throughout, the size of each holder's set and the number of its records in
--- the trail make n at every moment; so no run writes more than n times n records, and so many always fit where the buffer is that long.
+-- The sum of document 01: from a fresh ring, with one buffer lent throughout, the size of each holder's set
+-- and the number of its records in the trail make n at every moment; so no run writes more than n times n
+-- records, and so many always fit where the buffer is that long.
 use mathlib.Core.Path.{_≡_, refl, ap, _∙_}
 use mathlib.Core.Bool.{Bool, true, false}
 use mathlib.Core.List.{List, [], _∷_}
@@ -37,7 +38,8 @@ use Rattle.demand2.proofs.Refused.{answers}
 
 -- ---- what is said
 
--- for each holder: the size of its set plus the number of its records in the trail is n. And of all together: n times n
+-- for each holder: the size of its set plus the number of its records in the trail is n. And of all together:
+-- n times n
 pub record SumIsN (n : ℕ) (b : Bench) : Type 0 where
   pub each : (p : ℕ) → p < n → sizeOf (seatOf (b .ring) p .set) + recordsBy p b ≡ n
   pub total : sum n (λ p. sizeOf (seatOf (b .ring) p .set)) + b .ring .records ≡ n * n

@@ -1,5 +1,6 @@
--- The whole trail, at every moment of a run from a fresh ring with one buffer lent throughout: each holder's set can be told from its records,
--- and the records stand by time, then holder, and cause a before cause c (specs/Story.antt).
+-- The whole trail, at every moment of a run from a fresh ring with one buffer lent throughout: each holder's
+-- set can be told from its records, and the records stand by time, then holder, and cause a before cause c
+-- (specs/Story.antt).
 use mathlib.Core.Path.{_≡_, refl, sym, ap, _∙_, subst₂}
 use mathlib.Core.Bool.{Bool, true, false, cond, not, _&&_, false≢true}
 use mathlib.Core.List.{List}

@@ -1,4 +1,5 @@
--- The five empty programs of document 01 in the place of `step`: each as a kind of programs, and one of that kind written out.
+-- The five empty programs of document 01 in the place of `step`: each as a kind of programs, and one of that
+-- kind written out.
 use mathlib.Core.Bool.{Bool, cond}
 use mathlib.Core.List.{List}
 use mathlib.Core.Path.{_≡_}

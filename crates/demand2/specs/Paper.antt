@@ -1,4 +1,5 @@
--- The protocol of document 002 with the correction of its footnote 4, in its own words, beside the engine's definitions.
+-- The protocol of document 002 with the correction of its footnote 4, in its own words, beside the engine's
+-- definitions.
 use mathlib.Core.Bool.{Bool, true, false, cond, not, _&&_, _||_}
 use mathlib.Core.List.{List, [], _∷_}
 use Prim.Native.Nat.{ℕ, _%_}
@@ -76,7 +77,8 @@ pub record Does : Type 0 where
   pub causes : Removal
   pub ack : Bool
 
--- p is excluded in the cases (a) and (b), and by the footnote; b is excluded in the cases (c) and (d), and not where the footnote excludes p
+-- p is excluded in the cases (a) and (b), and by the footnote; b is excluded in the cases (c) and (d), and
+-- not where the footnote excludes p
 abbrev pub does : Knows → Does
 does k = record {
   itself = caseA k || caseB k || caseE k;
@@ -104,7 +106,8 @@ received r p d = record {
   ack = d .ack;
 }
 
--- where b is not in p's membership set, none of the local variables are changed; the broadcaster sets its ack to true; any other is updated
+-- where b is not in p's membership set, none of the local variables are changed; the broadcaster sets its ack
+-- to true; any other is updated
 abbrev pub updated : Ring → Marks → Bool → ℕ → Updated
 updated r m sentFalse p =
     cond (membership r p (broadcaster r))

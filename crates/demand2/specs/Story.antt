@@ -37,8 +37,8 @@ pub data Gives (p b : ℕ) : Removal → (removed letter : ℕ) → Type 0 where
   itself-too : (k l : Cause) → Gives p b (Both k l) p (letterOf k)
   owner-too : (k l : Cause) → Gives p b (Both k l) b (letterOf l)
 
--- a record of the step: its time is the step's; its holder is a seat that is not out, is not the owner, and has the owner in its set; the
--- seat removed and the cause are those of the table's row for the holder
+-- a record of the step: its time is the step's; its holder is a seat that is not out, is not the owner, and
+-- has the owner in its set; the seat removed and the cause are those of the table's row for the holder
 pub record Says (r : Ring) (c : Slot) (e : Record) : Type 0 where
   pub time : e .time ≡ r .time
   pub holder : e .holder < r .n
@@ -53,7 +53,8 @@ Before e f = (e .holder < f .holder) ⊎ ((e .holder ≡ f .holder) × (e .cause
 
 -- the step from the ring r and the trail t, in the slot c, to the ring r′ and the trail t′
 pub record OneStory (r : Ring) (c : Slot) (t : List ℕ) (r′ : Ring) (t′ : List ℕ) : Type 0 where
-  -- q was in p's set and is not any more, where exactly one record of the step has that holder and removed seat; else none has
+  -- q was in p's set and is not any more, where exactly one record of the step has that holder and removed
+  -- seat; else none has
   pub counted : (p q : ℕ) → passing (tellsOf p q) (r .records) (r′ .records - r .records) t′ ≡ cond (left (seatOf r p .set) (seatOf r′ p .set) q) 1 0
   -- what each record of the step says
   pub says : (i : ℕ) → r .records ≤ i → i < r′ .records → Says r c (recordAt t′ i)

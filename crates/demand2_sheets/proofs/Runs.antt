@@ -26,7 +26,8 @@ use Rattle.run.proofs.Story.{benchAt, run-story}
 
 -- ---- what is said
 
--- step k of a run, from the bench before it: the sets and bits of document 002 with its footnote, and one record for each removal and none besides
+-- step k of a run, from the bench before it: the sets and bits of document 002 with its footnote, and one
+-- record for each removal and none besides
 pub record StepHolds (n : ℕ) (trail : List ℕ) (b : Bench) (w : Reached n trail b) (m : Marks) : Type 0 where
   pub paper : (p : ℕ) → p < n → membership (b .ring) p p ≡ true → Holds (seatOf (stepOn m b .ring) p) (updated (b .ring) m (sentFalse p (history w)) p)
   pub story : OneStory (b .ring) (step.slotOf (b .ring) (m .send) (m .receive)) (b .trail) (stepOn m b .ring) (stepOn m b .trail)

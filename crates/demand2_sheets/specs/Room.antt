@@ -18,7 +18,8 @@ use Rattle.run.specs.Run.{runOf}
 abbrev pub AllRoom : List ℕ → Type 0
 AllRoom t = width * roomMost ≤ length t
 
--- whatever the bytes, a run with such a trail is refused only where its sheet is: with the reader's number and place
+-- whatever the bytes, a run with such a trail is refused only where its sheet is: with the reader's number
+-- and place
 abbrev pub OnlyTheReader : Type 0
 OnlyTheReader =
     (bytes t : List ℕ) → AllRoom t → (number place : ℕ) → runOf bytes t .outcome ≡ refused number place

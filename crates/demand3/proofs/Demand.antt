@@ -1,8 +1,8 @@
--- Demand 3, over the engine: every run within the fault terms keeps its sound seats in agreement. Assumes nothing.
--- The argument: Model has the ring over functions of the seats, Seat what a step does to one of them,
--- Invariant what holds along a run; Moves and the five kinds of step (Sent, Missed, Spoken, Removed, Idle)
--- keep it, by Kept; Agrees reads agreement off it. View shows that the engine's step is the model's, and
--- Along follows a run; Tested and Decided are the verdict; Read and Before go back to the ring.
+-- Demand 3, over the engine: every run within the fault terms keeps its sound seats in agreement. Assumes
+-- nothing. The argument: Model has the ring over functions of the seats, Seat what a step does to one of
+-- them, Invariant what holds along a run; Moves and the five kinds of step (Sent, Missed, Spoken, Removed,
+-- Idle) keep it, by Kept; Agrees reads agreement off it. View shows that the engine's step is the model's,
+-- and Along follows a run; Tested and Decided are the verdict; Read and Before go back to the ring.
 use mathlib.Core.List.{List, [], _∷_}
 use mathlib.Core.Logic.{⊎-elim}
 use mathlib.Core.Path.{_≡_, sym, ap, _∙_}

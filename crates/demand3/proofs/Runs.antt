@@ -1,4 +1,5 @@
--- The runs of specs/Runs.antt come out as stated, by computation over the engine's own definitions. Assumes nothing.
+-- The runs of specs/Runs.antt come out as stated, by computation over the engine's own definitions. Assumes
+-- nothing.
 use mathlib.Core.Bool.{true}
 use mathlib.Core.Path.{_≡_, refl, sym, ap, _∙_}
 use Prim.Native.Nat.{ℕ, _+_, _-_, _≤_, _<_}

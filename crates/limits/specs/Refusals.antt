@@ -4,9 +4,10 @@ use Prim.Native.Nat.{ℕ}
 use Rattle.limits.specs.declared.Refusal.{Refusal}
 use Rattle.limits.specs.declared.Refusal.the-variants.{EndsEarly, WrongByte, OutsideLimits, ModuleTwice, MarkNotAbove, WrongMark, BytesAfter, NoRoom, AtTheEnd, NotARing}
 
--- the table's first column: 1 the sheet ends where a byte is needed, 2 a byte that cannot stand there, 3 a number outside its limits,
--- 4 a module number on an earlier line too, 5 a mark not above the mark before, 6 a mark for a seat that cannot have it,
--- 7 bytes after the last section, 8 no room for the records, 9 a step at time 4,096, 10 not a ring
+-- the table's first column: 1 the sheet ends where a byte is needed, 2 a byte that cannot stand there, 3 a
+-- number outside its limits, 4 a module number on an earlier line too, 5 a mark not above the mark before, 6
+-- a mark for a seat that cannot have it, 7 bytes after the last section, 8 no room for the records, 9 a step
+-- at time 4,096, 10 not a ring
 abbrev pub numberOf : Refusal → ℕ
 numberOf EndsEarly = 1
 numberOf WrongByte = 2

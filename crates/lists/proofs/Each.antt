@@ -1,5 +1,5 @@
--- The elements of a list by their places: every one, every two in their order, and how many pass a test; over lists put one after the other.
--- `d` stands past the end of a list. Assumes nothing.
+-- The elements of a list by their places: every one, every two in their order, and how many pass a test; over
+-- lists put one after the other. `d` stands past the end of a list. Assumes nothing.
 use mathlib.Core.Path.{_≡_, refl, sym, ap, ap₂, _∙_, subst, subst₂}
 use mathlib.Core.Bool.{Bool, cond}
 use mathlib.Core.List.{List, [], _∷_, _++_}

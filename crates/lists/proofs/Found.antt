@@ -1,4 +1,5 @@
--- The numbers below a count that pass a test: one of them, if there is one; and how many, by those that are known. Assumes nothing.
+-- The numbers below a count that pass a test: one of them, if there is one; and how many, by those that are
+-- known. Assumes nothing.
 use mathlib.Core.Bool.{Bool, true, false, cond, not}
 use mathlib.Core.Logic.{_⊎_, inl, inr, ⊎-elim}
 use mathlib.Core.Path.{_≡_, ap}

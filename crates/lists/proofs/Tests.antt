@@ -1,4 +1,5 @@
--- Laws of the tests of specs/Counted.antt: of every number below a count, and of the first that passes. Assumes nothing.
+-- Laws of the tests of specs/Counted.antt: of every number below a count, and of the first that passes.
+-- Assumes nothing.
 use mathlib.Core.Path.{_≡_, refl, sym, ap, _∙_}
 use mathlib.Core.Bool.{Bool, true, false, _&&_, false≢true, true≢false}
 use mathlib.Core.Logic.{_⊎_, inl, inr, ⊎-elim}

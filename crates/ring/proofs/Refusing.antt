@@ -1,4 +1,5 @@
--- The checks of a step in their order, and the promise kept where it is refused and where it is taken. Assumes nothing.
+-- The checks of a step in their order, and the promise kept where it is refused and where it is taken.
+-- Assumes nothing.
 use mathlib.Core.Path.{_≡_, sym, _∙_}
 use mathlib.Core.Bool.{Bool, true, false}
 use mathlib.Core.List.{List}

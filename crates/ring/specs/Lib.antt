@@ -1,4 +1,5 @@
--- The files of definitions of the engine, each resting on those above it: `Promise` is what the public functions promise.
+-- The files of definitions of the engine, each resting on those above it: `Promise` is what the public
+-- functions promise.
 pub mod Ring
 pub mod Step
 pub mod Refusals

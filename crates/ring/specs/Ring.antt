@@ -78,6 +78,7 @@ seatStands n time p s = cond (ltb p n) (memberStands n time s) (absentStands s)
 unfoldable pub everySeatStands : Ring → Bool
 everySeatStands r = allBelow seatsMost (λ p. seatStands (r .n) (r .time) p (seatOf r p))
 
--- n is from 2 to 32 and the time at most 4,096; not a ring otherwise, and not where it has more records than the room
+-- n is from 2 to 32 and the time at most 4,096; not a ring otherwise, and not where it has more records than
+-- the room
 unfoldable pub isRing : Ring → ℕ → Bool
 isRing r room = seatsStand (r .n) && leb (r .time) slotsMost && leb (r .records) room && everySeatStands r

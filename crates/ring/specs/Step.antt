@@ -15,7 +15,8 @@ use Rattle.ring.specs.declared.Ring.{Ring}
 
 -- ---- the slot
 
--- the owner speaks as its own set, its acknowledgement before the step and its send mark have it; a first fault is kept as the time plus one
+-- the owner speaks as its own set, its acknowledgement before the step and its send mark have it; a first
+-- fault is kept as the time plus one
 abbrev pub slotFor : Ring → Bool → ℕ → ℕ → Slot
 slotFor r send receive b = record {
   owner = b;

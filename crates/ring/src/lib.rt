@@ -83,8 +83,8 @@ impl Ring {
     }
 
     // One slot: the owner's send mark, the seats with a receive mark, and the trail that takes the records.
-    // The records are counted before any is written, so that a step without room leaves no trace. Most steps remove
-    // nobody, and then no seat is looked at again.
+    // The records are counted before any is written, so that a step without room leaves no trace. Most steps
+    // remove nobody, and then no seat is looked at again.
     pub fn step(self, send: bool, receive: u32, trail: &mut [u8]) -> Stepped
         ensures { λ s. ⌜ StepPromise self send receive (now (trail .entry)) s (now (trail .exit)) ⌝ }
     {

@@ -1,4 +1,5 @@
--- The marks gathered on the way are those that document 01 gives the slot, since the marks of a good sheet ascend by time. Assumes nothing.
+-- The marks gathered on the way are those that document 01 gives the slot, since the marks of a good sheet
+-- ascend by time. Assumes nothing.
 use mathlib.Core.Path.{_≡_, sym, ap, ap₂, _∙_}
 use mathlib.Core.Bool.{Bool, true, false, not, _&&_, and-comm, _||_}
 use mathlib.Core.Logic.{_⊎_, inl, inr, ⊎-elim}
@@ -42,7 +43,8 @@ module _ (sheet : Sheet) (good : GoodSheet sheet) where
 
 -- ---- what is gathered
 
--- the marks before the place have been gathered for the slot at time t, and those from the place on are not before it
+-- the marks before the place have been gathered for the slot at time t, and those from the place on are not
+-- before it
 pub record Gathers (sheet : Sheet) (t : ℕ) (g : Gathered) : Type 0 where
   pub few : g .next ≤ sheet .«mark_count»
   pub past : (i : ℕ) → i < g .next → markOf sheet i .time ≤ t

@@ -1,4 +1,5 @@
--- The run of a sheet from a slot on: how it ends there or goes on, and that what is left comes to the same as all did. Assumes nothing.
+-- The run of a sheet from a slot on: how it ends there or goes on, and that what is left comes to the same as
+-- all did. Assumes nothing.
 use mathlib.Core.Path.{_≡_, refl, sym, ap, ap₂, _∙_}
 use mathlib.Core.Bool.{Bool, true, false}
 use mathlib.Core.List.{List}

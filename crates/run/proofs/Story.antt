@@ -1,4 +1,5 @@
--- The run of a good sheet is the fold of the step's definition over its slots, up to its end or to the slot that ends it. Assumes nothing.
+-- The run of a good sheet is the fold of the step's definition over its slots, up to its end or to the slot
+-- that ends it. Assumes nothing.
 use mathlib.Core.Path.{_≡_, refl, sym, ap, _∙_, subst}
 use mathlib.Core.List.{List, [], _∷_}
 use mathlib.Core.Logic.{⊎-elim}
@@ -28,7 +29,8 @@ use Rattle.run.proofs.Running.{marksOn, heardOn, run-ends, run-differs,
 abbrev pub Agrees : Sheet → List ℕ → ℕ → Type 0
 Agrees sheet trail k = spokenOn (marksAt sheet k) (benchAt sheet trail k) ≡ heardIn sheet k
 
--- a run ends after k steps with this outcome: at the last slot, at the first difference, or with a step that is refused
+-- a run ends after k steps with this outcome: at the last slot, at the first difference, or with a step that
+-- is refused
 pub data Ending (sheet : Sheet) (trail : List ℕ) (k : ℕ) : Outcome → Type 0 where
   agreed : k ≡ sheet .«slot_count» → Ending sheet trail k (ran agrees (verdictFound (benchAt sheet trail k .ring)))
   differed : k < sheet .«slot_count» → (Agrees sheet trail k → ⊥) → Ending sheet trail k (ran (differs k) (verdictFound (benchAt sheet trail k .ring)))

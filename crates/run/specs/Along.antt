@@ -1,4 +1,5 @@
--- The bench along the run of a sheet: what the theorems on runs speak of. What `run` promises does not rest on it.
+-- The bench along the run of a sheet: what the theorems on runs speak of. What `run` promises does not rest
+-- on it.
 use mathlib.Core.List.{List}
 use Prim.Native.Nat.{ℕ}
 use Rattle.lists.specs.Counted.{tab}

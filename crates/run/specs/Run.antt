@@ -44,8 +44,8 @@ abbrev pub onTold : {A : Type 0} → Told → A → (ℕ → ℕ → A) → A
 onTold limits.done more stop = more
 onTold (limits.refused number place) more stop = stop number place
 
--- so many slots left: before each step what the owner speaks is compared with the slot's line. At the first difference the run stops with that
--- step not taken
+-- so many slots left: before each step what the owner speaks is compared with the slot's line. At the first
+-- difference the run stops with that step not taken
 unfoldable pub runFrom : ℕ → Sheet → Bench → Result
 runFrom zero sheet b = judged sheet b agrees
 runFrom (suc left) sheet b =
@@ -60,7 +60,8 @@ runFrom (suc left) sheet b =
 abbrev pub runSheet : Sheet → List ℕ → Result
 runSheet sheet trail = runFrom (sheet .«slot_count») sheet (freshBench (sheet .n) trail)
 
--- the run of a sheet's bytes with a trail. A refused sheet takes no step, leaves the trail and gives the zero ring
+-- the run of a sheet's bytes with a trail. A refused sheet takes no step, leaves the trail and gives the zero
+-- ring
 unfoldable pub runOf : List ℕ → List ℕ → Result
 runOf bytes trail =
     onFound (sheetIn bytes)

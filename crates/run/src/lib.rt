@@ -72,8 +72,9 @@ fn refused(why: Refusal, place: usize, ring: Ring, modules: [u16; limits::SEATS_
     }
 }
 
-// A fresh ring through all the slots of a sheet. Each turn gathers one mark of the slot or, when none is left, takes the slot's step:
-// so there is one turn for each slot and one for each mark, and nothing of the sheet is copied in a turn.
+// A fresh ring through all the slots of a sheet. Each turn gathers one mark of the slot or, when none is
+// left, takes the slot's step: so there is one turn for each slot and one for each mark, and nothing of the
+// sheet is copied in a turn.
 fn through(sheet: Sheet, trail: &mut [u8]) -> Ran
     requires { ⌜ GoodSheet sheet ⌝ }
     ensures { λ r. ⌜ Leaves (runSheet sheet (now (trail .entry))) r (now (trail .exit)) ⌝ }

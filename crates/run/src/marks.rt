@@ -1,4 +1,5 @@
-// The marks of a slot, gathered as the run goes on: the marks of a sheet ascend by time, so that the place in them only moves forward.
+// The marks of a slot, gathered as the run goes on: the marks of a sheet ascend by time, so that the place in
+// them only moves forward.
 ghost use mathlib.Core.Path.{_≡_};
 ghost use Prim.Native.Nat.{_<_};
 ghost use Rattle.limits.specs.Limits.{seatsMost, marksMost};
@@ -6,7 +7,8 @@ ghost use Rattle.seats.specs.Joined.{added};
 ghost use Rattle.run.specs.Inside.{noneGathered, withMark, slotOver, givenBy};
 use sheet::Mark;
 
-// What the marks gathered so far come to: how many they are, the seats with a mark in this slot, and those that are dark.
+// What the marks gathered so far come to: how many they are, the seats with a mark in this slot, and those
+// that are dark.
 pub struct Gathered {
     pub next: usize,
     pub send: u32,

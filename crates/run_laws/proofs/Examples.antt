@@ -1,4 +1,5 @@
--- Runs of small sheets, computed: document 01's printed sheet, and what ends a run before its last slot. Assumes nothing.
+-- Runs of small sheets, computed: document 01's printed sheet, and what ends a run before its last slot.
+-- Assumes nothing.
 use mathlib.Core.Path.{_≡_, refl}
 use mathlib.Core.Bool.{true}
 use mathlib.Core.List.{List, [], _∷_, _++_}

@@ -1,4 +1,5 @@
--- Laws of a number's binary digits: the highest; one is taken away, all are compared, all are counted. Assumes nothing.
+-- Laws of a number's binary digits: the highest; one is taken away, all are compared, all are counted.
+-- Assumes nothing.
 use mathlib.Core.Path.{_≡_, refl, sym, ap, _∙_}
 use Prim.Native.Nat.{ℕ, zero, suc, _+_, _-_, _*_, _/_, _%_, _^_, _≤_, _<_}
 use native.Mathlib.Nat.{pow-suc, div-one, div-eq-of-lt}

@@ -1,4 +1,5 @@
--- Laws of the sets of specs/Sets.antt: who is in a set, and how many, after a removal, in the set of one seat and in the full set. Assumes nothing.
+-- Laws of the sets of specs/Sets.antt: who is in a set, and how many, after a removal, in the set of one seat
+-- and in the full set. Assumes nothing.
 use mathlib.Core.Path.{_≡_, sym, ap, _∙_}
 use mathlib.Core.Bool.{true, false, not, _&&_, and-true, and-false}
 use mathlib.Core.Logic.{⊎-elim}

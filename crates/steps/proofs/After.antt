@@ -1,4 +1,5 @@
--- The ring and the trail after a step: the seats, the records' bytes, and that a ring leads to a ring. Assumes nothing.
+-- The ring and the trail after a step: the seats, the records' bytes, and that a ring leads to a ring.
+-- Assumes nothing.
 use mathlib.Core.Path.{_≡_, _∙_}
 use mathlib.Core.Bool.{Bool}
 use mathlib.Core.List.{List}

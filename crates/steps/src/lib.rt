@@ -1,1 +1,2 @@
-// No code: runs of the engine as a list of steps (specs/), and the laws of a step that the theorems share (proofs/).
+// No code: runs of the engine as a list of steps (specs/), and the laws of a step that the theorems share
+// (proofs/).

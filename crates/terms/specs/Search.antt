@@ -1,4 +1,5 @@
--- What the search for the first step up to which the fault terms fail goes by. A reader of the promise needs none of it.
+-- What the search for the first step up to which the fault terms fail goes by. A reader of the promise needs
+-- none of it.
 use mathlib.Core.Bool.{Bool, cond, not, _&&_, _||_}
 use mathlib.Core.List.{List}
 use Prim.Native.Nat.{ℕ, zero, suc, _-_, min}

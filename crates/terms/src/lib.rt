@@ -1,4 +1,5 @@
-// The fault terms, and the first step up to which they fail. First faults are kept as their times plus one, and 0 is none.
+// The fault terms, and the first step up to which they fail. First faults are kept as their times plus one,
+// and 0 is none.
 ghost use mathlib.Core.Path.{_≡_};
 ghost use mathlib.Core.Bool.{cond, not};
 ghost use Prim.Native.Nat.{_<_, _≤_};
@@ -101,8 +102,8 @@ fn first_found(faults: [u16; limits::SEATS_MOST], n: usize) -> u16
     first
 }
 
-// The first step before the time up to which the terms fail, and the time where they hold up to each. Where n is no number
-// of seats it is the time.
+// The first step before the time up to which the terms fail, and the time where they hold up to each. Where n
+// is no number of seats it is the time.
 pub fn first_failing(faults: [u16; limits::SEATS_MOST], n: usize, time: u16) -> u16
     ensures { λ r. ⌜ r ≡ cond (seatsStand n) (firstFailing n faults time) time ⌝ }
 {

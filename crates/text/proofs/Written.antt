@@ -1,4 +1,5 @@
--- A text written from the start of a buffer stands there as far as it fits, and no other byte is touched. Assumes nothing.
+-- A text written from the start of a buffer stands there as far as it fits, and no other byte is touched.
+-- Assumes nothing.
 use mathlib.Core.Path.{_≡_, sym, ap, ap₂, _∙_}
 use mathlib.Core.Bool.{true, false}
 use mathlib.Core.List.{List, [], _∷_, _++_, append-assoc, append-nil}

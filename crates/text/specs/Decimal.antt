@@ -5,7 +5,8 @@ use Prim.Native.Nat.{ℕ, zero, suc, _/_, _%_}
 use lib.Dec.{ltb}
 use Rattle.text.specs.Ascii.{digit}
 
--- a number below 10 is one digit; any other is its tens and then its last digit. `more` bounds the number of digits
+-- a number below 10 is one digit; any other is its tens and then its last digit. `more` bounds the number of
+-- digits
 unfoldable pub digitsIn : ℕ → ℕ → List ℕ
 digitsIn zero n = []
 digitsIn (suc more) n =

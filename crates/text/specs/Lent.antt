@@ -17,7 +17,8 @@ lent place page = record { place = place; page = page }
 abbrev pub placeAt : ℕ → Bool → Place
 placeAt at whole = record { at = at; whole = whole }
 
--- a byte goes to the place where there is room, and the next one behind it; where there is none no byte is touched, and not all has found room
+-- a byte goes to the place where there is room, and the next one behind it; where there is none no byte is
+-- touched, and not all has found room
 unfoldable pub withByte : Lent → ℕ → Lent
 withByte x byte =
     let at = x .place .at in

@@ -1,4 +1,5 @@
-// Text: the bytes that part and end its lines; and bytes, words and decimal numbers written into a lent buffer, as far as they fit.
+// Text: the bytes that part and end its lines; and bytes, words and decimal numbers written into a lent
+// buffer, as far as they fit.
 ghost use mathlib.Core.Path.{_≡_};
 ghost use Rattle.text.specs.Decimal.{decimal};
 ghost use Rattle.text.specs.Lent.{lent, withByte, withText};

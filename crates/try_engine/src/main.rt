@@ -1,4 +1,5 @@
-// The engine's runs of document 01 that are run and compared: the room for records, and every kind of refusal of a step, a fresh ring and a verdict.
+// The engine's runs of document 01 that are run and compared: the room for records, and every kind of refusal
+// of a step, a fresh ring and a verdict.
 use libc::STDOUT_FILENO;
 use ring::Judged;
 use ring::Ring;

@@ -1,5 +1,6 @@
 // Reads sheets and prints what each comes to: `name: read n marks slots`, or `name: refused NUMBER PLACE`.
-// The file `sheets` holds many, each its name between `=` and a line feed and then its bytes up to the next `=`; two long ones have a file each.
+// The file `sheets` holds many, each its name between `=` and a line feed and then its bytes up to the next
+// `=`; two long ones have a file each.
 ghost use Prim.Native.Nat.{_<_, _≤_};
 ghost use lib.ListN.{length};
 ghost use Rattle.io.specs.Counts.{Counts};

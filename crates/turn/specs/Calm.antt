@@ -1,4 +1,5 @@
--- The seats that are seen at once to keep all that they have. No rule rests on this file: that such a seat's turn leaves it as it is, is proved.
+-- The seats that are seen at once to keep all that they have. No rule rests on this file: that such a seat's
+-- turn leaves it as it is, is proved.
 use mathlib.Core.Bool.{Bool, false, not, _&&_, _||_}
 use Prim.Native.Nat.{ℕ}
 use lib.Dec.{eqb}

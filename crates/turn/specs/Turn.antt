@@ -24,7 +24,8 @@ sound s = eqb (s .fault) 0
 
 -- ---- what is spoken, and what a seat sees of it
 
--- the owner speaks if it is in its own set and has no send mark; it speaks its acknowledgement as it was before the step
+-- the owner speaks if it is in its own set and has no send mark; it speaks its acknowledgement as it was
+-- before the step
 abbrev pub spokenBy : (owner set : ℕ) (ack send : Bool) → Spoken
 spokenBy owner set ack send = cond (hasSeat set owner && not send) (Bit ack) Nothing
 
@@ -49,7 +50,8 @@ isMissed (Heard bit) = false
 abbrev pub faultAfter : (held : Bool) (since fault : ℕ) → ℕ
 faultAfter held since fault = cond (held && eqb fault 0) since fault
 
--- the owner, in its own set: acknowledgement true, doubt the opposite of the old one, also where its send mark takes hold
+-- the owner, in its own set: acknowledgement true, doubt the opposite of the old one, also where its send
+-- mark takes hold
 abbrev pub ownerTurn : Slot → Seat → Turn
 ownerTurn c s = record {
   seat = record { set = s .set; ack = true; doubt = not (s .ack); fault = faultAfter (c .send) (c .since) (s .fault) };

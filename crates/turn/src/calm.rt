@@ -1,4 +1,5 @@
-// The seats that are seen at once to keep all that they have, so that a step passes over them: in most slots nearly all.
+// The seats that are seen at once to keep all that they have, so that a step passes over them: in most slots
+// nearly all.
 ghost use mathlib.Core.Path.{_≡_};
 ghost use Rattle.turn.specs.Calm.{calmIn, undisturbedBy, keepsAll};
 use crate::Slot;
@@ -31,8 +32,8 @@ fn undisturbed(calm: bool, ack: bool, doubt: bool) -> bool
     !doubt
 }
 
-// Whether seat p, which has this set and these bits, is seen at once to keep all that it has: it is not the owner, and is
-// undisturbed or does not expect the owner.
+// Whether seat p, which has this set and these bits, is seen at once to keep all that it has: it is not the
+// owner, and is undisturbed or does not expect the owner.
 pub fn keeps_all(calm: bool, set: u32, ack: bool, doubt: bool, p: usize, owner: usize) -> bool
     ensures { λ r. ⌜ r ≡ keepsAll calm set ack doubt p owner ⌝ }
 {

@@ -43,8 +43,8 @@ pub struct Decision {
     pub ack: bool,
 }
 
-// What all seats share in a slot: the owner and what it speaks, the marks, and the time plus one, as which a first fault
-// in this slot is kept.
+// What all seats share in a slot: the owner and what it speaks, the marks, and the time plus one, as which a
+// first fault in this slot is kept.
 pub struct Slot {
     pub owner: usize,
     pub spoken: Spoken,
@@ -67,7 +67,8 @@ pub struct Turn {
     pub removal: Removal,
 }
 
-// What an owner with this set and acknowledgement speaks: nothing where it is not in its own set or has a send mark.
+// What an owner with this set and acknowledgement speaks: nothing where it is not in its own set or has a
+// send mark.
 pub fn speak(owner: usize, set: u32, ack: bool, send: bool) -> Spoken
     ensures { λ r. ⌜ r ≡ spokenBy owner set ack send ⌝ }
 {

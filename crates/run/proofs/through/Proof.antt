@@ -1,4 +1,5 @@
--- `through`: each turn gathers a mark or takes a step, and what is left of the run comes to what the whole does. Assumes nothing.
+-- `through`: each turn gathers a mark or takes a step, and what is left of the run comes to what the whole
+-- does. Assumes nothing.
 use borrow.Author.Needs.{needs}
 use mathlib.Core.Logic.{inl, inr, ⊎-elim}
 use native.Mathlib.Nat.{mod-lt}

@@ -1,4 +1,5 @@
--- `holds_with`: before seat q those below it keep apart, and the sound ones among them are counted. Assumes nothing.
+-- `holds_with`: before seat q those below it keep apart, and the sound ones among them are counted. Assumes
+-- nothing.
 use borrow.Author.Needs.{needs}
 use mathlib.Core.Path.{_≡_, refl, sym, ap, _∙_}
 use Prim.Native.Nat.{ℕ, _-_, _≤_}

@@ -1,4 +1,5 @@
--- `step`: the checks in their order; then the ring drawn, the room tested and the records written. Assumes nothing.
+-- `step`: the checks in their order; then the ring drawn, the room tested and the records written. Assumes
+-- nothing.
 use borrow.Author.Needs.{needs}
 use mathlib.Core.Path.{_≡_, refl, sym, ap, _∙_}
 use Prim.Native.Nat.{_+_, _%_, _<_}
