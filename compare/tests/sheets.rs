@@ -36,14 +36,14 @@ fn both_sides_print_the_page_beside_each_sheet() {
 }
 
 #[test]
-fn every_sheet_has_a_page_and_a_line_of_the_table() {
+fn every_sheet_has_a_page_and_an_item_of_the_list() {
     let sheets = names(".sheet");
     assert!(sheets.len() >= 12);
     assert_eq!(sheets, names(".page"));
-    let table = fs::read_to_string(folder().join("README.md")).unwrap();
-    let mut rows: Vec<_> = table.lines().filter_map(|line| line.strip_prefix("| `")?.split('`').next()).collect();
-    rows.sort_unstable();
-    assert_eq!(rows, sheets);
+    let list = fs::read_to_string(folder().join("README.md")).unwrap();
+    let mut items: Vec<_> = list.lines().filter_map(|line| line.strip_prefix("- `")?.split('`').next()).collect();
+    items.sort_unstable();
+    assert_eq!(items, sheets);
 }
 
 #[test]
