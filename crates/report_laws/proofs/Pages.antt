@@ -32,4 +32,4 @@ page-stands sheet = go (runOf sheet emptyTrail .outcome) refl
     go (ran bus (unfit number place)) e = absurd (never-unfit sheet emptyTrail bus number place e)
     go (refused number place) e =
         let r = only-the-reader sheet emptyTrail all-room number place e in
-        pages.refused (r .0) place (r .2) (rw e (ap (λ (k : ℕ). refusedLine k place) (r .1)))
+        pages.refusal (r .0) place (r .2) (rw e (ap (λ (k : ℕ). refusedLine k place) (r .1)))

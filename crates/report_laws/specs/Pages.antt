@@ -15,7 +15,7 @@ use Rattle.sheet_page.specs.Promise.{textOf}
 
 pub data Stands (sheet : List ℕ) : Type 0 where
   -- the sheet is refused, and the page says so with its number and place
-  refused : (why : Refusal) (place : ℕ) → sheetIn sheet ≡ offence why place → textOf sheet ≡ refusedLine (numberOf why) place → Stands sheet
+  refusal : (why : Refusal) (place : ℕ) → sheetIn sheet ≡ offence why place → textOf sheet ≡ refusedLine (numberOf why) place → Stands sheet
   -- it is run, and records, seats and both verdicts stand there
   whole : (bus : Heard) (faults : Finding) → runOf sheet emptyTrail .outcome ≡ ran bus faults
       → textOf sheet ≡ recordsAndSeats (runOf sheet emptyTrail) ++ verdict (busLine bus) (faultsLine faults) → Stands sheet

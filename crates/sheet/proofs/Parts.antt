@@ -17,7 +17,7 @@ use Rattle.limits.specs.declared.Refusal.the-variants.{ModuleTwice, BytesAfter}
 use Rattle.sheet_lines.specs.Found.{Found, found, offence}
 use Rattle.sheet_lines.specs.Bytes.{byteAt, isKind, isHeard}
 use Rattle.sheet_lines.specs.Lines.{ended, lineAt, spacedAt}
-use Rattle.sheet.specs.Entries.{linesAt, countAt, entriesAt, isNew, moduleLine, slotLine}
+use Rattle.sheet.specs.Entries.{linesAt, countLine, entriesAt, isNew, moduleLine, slotLine}
 use Rattle.sheet.specs.Marks.{mark, noMark, markOffence, onOption, fieldsAt, markLine}
 use Rattle.sheet.specs.Sheets.{noModules, noMarks, noSlots, sheetFrom, sheetIn}
 use Rattle.sheet.specs.declared.Mark.{Mark}
@@ -114,13 +114,13 @@ fields-found s at m next e =
 -- a count within its limits, and as many lines
 pub record Counted {A : Type 0} (least most : ℕ) (line : ℕ → ℕ → List A → Found (List A)) (empty : List A) (s : List ℕ) (at count : ℕ) (entries : List A) (next : ℕ) : Type 0 where
   pub first : ℕ
-  pub counted : countAt least most s at ≡ found count first
+  pub counted : countLine least most s at ≡ found count first
   pub lines : entriesAt line empty count first ≡ found entries next
   pub low : least ≤ count
   pub high : count ≤ most
 
 both-found : {A : Type 0} (least most : ℕ) (line : ℕ → ℕ → List A → Found (List A)) (empty : List A) (s : List ℕ) (at count first : ℕ) (entries : List A) (next : ℕ)
-    → countAt least most s at ≡ found count first → entriesAt line empty count first ≡ found entries next → Counted least most line empty s at count entries next
+    → countLine least most s at ≡ found count first → entriesAt line empty count first ≡ found entries next → Counted least most line empty s at count entries next
 both-found least most line empty s at count first entries next e l =
     let w = line-within least most s at count first e in
     record { first = first; counted = e; lines = l; low = w .0; high = w .1 }
@@ -143,11 +143,11 @@ moved e g = rw (← found-value e, ← found-next e) g
 pub sheet-found : (s : List ℕ) (sheet : Sheet) (end : ℕ) → sheetIn s ≡ found sheet end → Good s sheet end
 unfolding sheetIn
 sheet-found s sheet end e =
-    let n = then-found (countAt seatsLeast seatsMost s 0) _ sheet end e in
+    let n = then-found (countLine seatsLeast seatsMost s 0) _ sheet end e in
     let ring = then-found (entriesAt (moduleLine s) noModules (n .0) (n .1)) _ sheet end (n .3) in
-    let m = then-found (countAt 0 marksMost s (ring .1)) _ sheet end (ring .3) in
+    let m = then-found (countLine 0 marksMost s (ring .1)) _ sheet end (ring .3) in
     let marks = then-found (entriesAt (markLine (n .0) s) noMarks (m .0) (m .1)) _ sheet end (m .3) in
-    let h = then-found (countAt 0 slotsMost s (marks .1)) _ sheet end (marks .3) in
+    let h = then-found (countLine 0 slotsMost s (marks .1)) _ sheet end (marks .3) in
     let slots = then-found (entriesAt (slotLine s) noSlots (h .0) (h .1)) _ sheet end (h .3) in
     let whole = sheetFrom (n .0) (ring .0) (m .0) (marks .0) (h .0) (slots .0) in
     let t = test-found (ltb (slots .1) (length s)) (slots .1) whole sheet (slots .1) end (slots .3) in

@@ -18,8 +18,8 @@ linesAt line zero at k entries = found entries at
 linesAt line (suc more) at k entries = andThen (line at k entries) (λ entries next. linesAt line more next (k + 1) entries)
 
 -- a count alone on its line, within its limits
-abbrev pub countAt : ℕ → ℕ → List ℕ → ℕ → Found ℕ
-countAt least most sheet at = lineAt least most sheet at
+abbrev pub countLine : ℕ → ℕ → List ℕ → ℕ → Found ℕ
+countLine least most sheet at = lineAt least most sheet at
 
 -- and as many lines; the entries past the count stay as they are in `none`
 abbrev pub entriesAt : {A : Type 0} → (ℕ → ℕ → List A → Found (List A)) → List A → ℕ → ℕ → Found (List A)

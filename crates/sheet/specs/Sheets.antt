@@ -9,7 +9,7 @@ use Rattle.limits.specs.Limits.{seatsLeast, seatsMost, marksMost, slotsMost}
 use Rattle.limits.specs.Refusals.{numberOf, Told, done, refused}
 use Rattle.limits.specs.declared.Refusal.the-variants.{BytesAfter}
 use Rattle.sheet_lines.specs.Found.{Found, found, offence, andThen}
-use Rattle.sheet.specs.Entries.{countAt, entriesAt, moduleLine, slotLine}
+use Rattle.sheet.specs.Entries.{countLine, entriesAt, moduleLine, slotLine}
 use Rattle.sheet.specs.Marks.{noMark, markLine}
 use Rattle.sheet.specs.declared.Mark.{Mark}
 use Rattle.sheet.specs.declared.Sheet.{Sheet}
@@ -38,11 +38,11 @@ noSheet = sheetFrom 0 noModules 0 noMarks 0 noSlots
 -- ring, marks and slots in this order, each after its count, and no bytes after them
 unfoldable pub sheetIn : List ℕ → Found Sheet
 sheetIn bytes =
-    andThen (countAt seatsLeast seatsMost bytes 0)
+    andThen (countLine seatsLeast seatsMost bytes 0)
     (λ n at. andThen (entriesAt (moduleLine bytes) noModules n at)
-    (λ modules at. andThen (countAt 0 marksMost bytes at)
+    (λ modules at. andThen (countLine 0 marksMost bytes at)
     (λ markCount at. andThen (entriesAt (markLine n bytes) noMarks markCount at)
-    (λ marks at. andThen (countAt 0 slotsMost bytes at)
+    (λ marks at. andThen (countLine 0 slotsMost bytes at)
     (λ slotCount at. andThen (entriesAt (slotLine bytes) noSlots slotCount at)
     (λ slots end.
     cond (ltb end (length bytes)) (offence BytesAfter end) (found (sheetFrom n modules markCount marks slotCount slots) end)))))))

@@ -14,7 +14,7 @@ use Rattle.limits.specs.declared.Refusal.the-variants.{EndsEarly, WrongByte, Ou
 use Rattle.sheet_lines.specs.Found.{Found, found, offence, onFound, andThen}
 use Rattle.sheet_lines.specs.Bytes.{isDigit, isSpace, isLineFeed, isKind, isHeard, byteAt, digitsAt, numberAt}
 use Rattle.sheet_lines.specs.Lines.{endAt, ended, within, lineAt, spacedAt}
-use Rattle.sheet.specs.Entries.{linesAt, countAt, entriesAt, isNew, moduleLine, slotLine}
+use Rattle.sheet.specs.Entries.{linesAt, countLine, entriesAt, isNew, moduleLine, slotLine}
 use Rattle.sheet.specs.Marks.{mark, noMark, markOffence, onOption, fieldsAt, markLine}
 use Rattle.sheet.specs.Sheets.{noModules, noMarks, noSlots, sheetFrom, sheetIn}
 use Rattle.sheet.specs.declared.Mark.{Mark}
@@ -129,11 +129,11 @@ lines-only line x (suc more) at k e = only-then (line at k e) _ (x at k e) (λ e
 pub reader-refusals : (bytes : List ℕ) (why : Refusal) (place : ℕ) → sheetIn bytes ≡ offence why place → ofSheet why ≡ true
 unfolding sheetIn
 reader-refusals bytes =
-    only-then (countAt seatsLeast seatsMost bytes 0) _ (line-only seatsLeast seatsMost bytes 0)
+    only-then (countLine seatsLeast seatsMost bytes 0) _ (line-only seatsLeast seatsMost bytes 0)
     (λ n at. only-then (entriesAt (moduleLine bytes) noModules n at) _ (lines-only (moduleLine bytes) (module-only bytes) n at 0 noModules)
-    (λ modules at. only-then (countAt 0 marksMost bytes at) _ (line-only 0 marksMost bytes at)
+    (λ modules at. only-then (countLine 0 marksMost bytes at) _ (line-only 0 marksMost bytes at)
     (λ markCount at. only-then (entriesAt (markLine n bytes) noMarks markCount at) _ (lines-only (markLine n bytes) (mark-only n bytes) markCount at 0 noMarks)
-    (λ marks at. only-then (countAt 0 slotsMost bytes at) _ (line-only 0 slotsMost bytes at)
+    (λ marks at. only-then (countLine 0 slotsMost bytes at) _ (line-only 0 slotsMost bytes at)
     (λ slotCount at. only-then (entriesAt (slotLine bytes) noSlots slotCount at) _ (lines-only (slotLine bytes) (slot-only bytes) slotCount at 0 noSlots)
     (λ slots end.
     only-cond (ltb end (length bytes)) _ _ (only-offence BytesAfter end refl) (only-found (sheetFrom n modules markCount marks slotCount slots) end)))))))

@@ -18,7 +18,7 @@ use Rattle.limits.specs.declared.Refusal.the-variants.{EndsEarly, WrongByte, Ou
 use Rattle.sheet_lines.specs.Found.{Found, found, offence, andThen}
 use Rattle.sheet_lines.specs.Bytes.{isSpace, isLineFeed, isKind, isHeard, byteAt, numberAt}
 use Rattle.sheet_lines.specs.Lines.{endAt, ended, within, lineAt, spacedAt}
-use Rattle.sheet.specs.Entries.{linesAt, countAt, entriesAt, isNew, moduleLine, slotLine}
+use Rattle.sheet.specs.Entries.{linesAt, countLine, entriesAt, isNew, moduleLine, slotLine}
 use Rattle.sheet.specs.Marks.{mark, noMark, markOffence, onOption, fieldsAt, markLine}
 use Rattle.sheet.specs.Sheets.{noModules, noMarks, noSlots, sheetFrom, sheetIn}
 use Rattle.sheet.specs.declared.Mark.{Mark}
@@ -142,21 +142,21 @@ last-stops s end sheet =
     other why place false p h = not-both why (sym h)
 
 -- a count, and the lines after it
-count-sees : (least most : ℕ) (s : List ℕ) (at : ℕ) → Sees at (λ t. countAt least most t at) s before
+count-sees : (least most : ℕ) (s : List ℕ) (at : ℕ) → Sees at (λ t. countLine least most t at) s before
 count-sees least most s at = later (next-to at) (line-sees least most s at)
 
 sheet-stops : (s : List ℕ) → Stops 0 sheetIn s
 unfolding sheetIn
 sheet-stops s =
-    then-stops 0 (λ t. countAt seatsLeast seatsMost t 0) _ s before near (count-sees seatsLeast seatsMost s 0)
+    then-stops 0 (λ t. countLine seatsLeast seatsMost t 0) _ s before near (count-sees seatsLeast seatsMost s 0)
     (λ n a e l.
     then-stops a (λ t. entriesAt (moduleLine t) noModules n a) _ s before near (lines-see moduleLine s (module-sees s) n a 0 noModules l)
     (λ modules b e l.
-    then-stops b (λ t. countAt 0 marksMost t b) _ s before near (count-sees 0 marksMost s b)
+    then-stops b (λ t. countLine 0 marksMost t b) _ s before near (count-sees 0 marksMost s b)
     (λ markCount c e l.
     then-stops c (λ t. entriesAt (markLine n t) noMarks markCount c) _ s before near (lines-see (markLine n) s (mark-sees n s) markCount c 0 noMarks l)
     (λ marks d e l.
-    then-stops d (λ t. countAt 0 slotsMost t d) _ s before near (count-sees 0 slotsMost s d)
+    then-stops d (λ t. countLine 0 slotsMost t d) _ s before near (count-sees 0 slotsMost s d)
     (λ slotCount f e l.
     then-stops f (λ t. entriesAt (slotLine t) noSlots slotCount f) _ s before near (lines-see slotLine s (slot-sees s) slotCount f 0 noSlots l)
     (λ slots end e l. last-stops s end (sheetFrom n modules markCount marks slotCount slots)))))))

@@ -7,7 +7,7 @@ use borrow.Author.Tests.{lt-ltb, le-ltb}
 use Rattle.limits.specs.Limits.{seatsLeast, seatsMost, marksMost, slotsMost}
 use Rattle.sheet_lines.specs.Found.{found}
 use Rattle.sheet_lines.proofs.LineLaws.{line-within}
-use Rattle.sheet.specs.Entries.{countAt, entriesAt, moduleLine, slotLine}
+use Rattle.sheet.specs.Entries.{countLine, entriesAt, moduleLine, slotLine}
 use Rattle.sheet.specs.Marks.{markLine}
 use Rattle.sheet.specs.Sheets.{noModules, noMarks, noSlots, sheetIn}
 use Rattle.sheet.proofs.SheetLaws.{found-by, beside-by}
@@ -16,19 +16,19 @@ use Rattle.sheet.proofs.sheet_in.Tie as tie
 
 -- ---- what each count and its lines are, once found
 
-seats : (c : tie.After-known-told) → countAt seatsLeast seatsMost (c .before .before .before .before .before .args .bytes .now) 0 ≡ found (c .before .count .given .0 .0) (c .before .count .given .0 .1 .0)
+seats : (c : tie.After-known-told) → countLine seatsLeast seatsMost (c .before .before .before .before .before .args .bytes .now) 0 ≡ found (c .before .count .given .0 .0) (c .before .count .given .0 .1 .0)
 seats c = found-by (c .before .before .before .line .ensures) (c .before .count .given .1)
 
 ring : (c : tie.After-known-told2) → entriesAt (moduleLine (c .before .before .before .before .before .before .before .before .before .args .bytes .now)) noModules (c .before .before .before .before .before .count .given .0 .0) (c .before .before .before .before .before .count .given .0 .1 .0) ≡ found (c .before .before .before .module-lines .result .list) (c .before .ring-end .given .0 .1 .0)
 ring c = beside-by (c .before .before .before .module-lines .ensures) (c .before .ring-end .given .1)
 
-marked : (c : tie.After-known-told3) → countAt 0 marksMost (c .before .before .before .before .before .before .before .before .before .before .before .before .before .args .bytes .now) (c .before .before .before .before .before .ring-end .given .0 .1 .0) ≡ found (c .before .count2 .given .0 .0) (c .before .count2 .given .0 .1 .0)
+marked : (c : tie.After-known-told3) → countLine 0 marksMost (c .before .before .before .before .before .before .before .before .before .before .before .before .before .args .bytes .now) (c .before .before .before .before .before .ring-end .given .0 .1 .0) ≡ found (c .before .count2 .given .0 .0) (c .before .count2 .given .0 .1 .0)
 marked c = found-by (c .before .before .before .line2 .ensures) (c .before .count2 .given .1)
 
 marks : (c : tie.After-known-told4) → entriesAt (markLine (c .before .before .before .before .before .before .before .before .before .before .before .before .before .count .given .0 .0) (c .before .before .before .before .before .before .before .before .before .before .before .before .before .before .before .before .before .args .bytes .now)) noMarks (c .before .before .before .before .before .count2 .given .0 .0) (c .before .before .before .before .before .count2 .given .0 .1 .0) ≡ found (c .before .before .before .mark-lines .result .list) (c .before .marks-end .given .0 .1 .0)
 marks c = beside-by (c .before .before .before .mark-lines .ensures) (c .before .marks-end .given .1)
 
-slotted : (c : tie.After-known-told5) → countAt 0 slotsMost (c .before .before .before .before .before .before .before .before .before .before .before .before .before .before .before .before .before .before .before .before .before .args .bytes .now) (c .before .before .before .before .before .marks-end .given .0 .1 .0) ≡ found (c .before .count3 .given .0 .0) (c .before .count3 .given .0 .1 .0)
+slotted : (c : tie.After-known-told5) → countLine 0 slotsMost (c .before .before .before .before .before .before .before .before .before .before .before .before .before .before .before .before .before .before .before .before .before .args .bytes .now) (c .before .before .before .before .before .marks-end .given .0 .1 .0) ≡ found (c .before .count3 .given .0 .0) (c .before .count3 .given .0 .1 .0)
 slotted c = found-by (c .before .before .before .line3 .ensures) (c .before .count3 .given .1)
 
 slots : (c : tie.After-known-told6) → entriesAt (slotLine (c .before .before .before .before .before .before .before .before .before .before .before .before .before .before .before .before .before .before .before .before .before .before .before .before .before .args .bytes .now)) noSlots (c .before .before .before .before .before .count3 .given .0 .0) (c .before .before .before .before .before .count3 .given .0 .1 .0) ≡ found (c .before .before .before .slot-lines .result .list) (c .before .slots-end .given .0 .1 .0)
