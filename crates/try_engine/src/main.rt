@@ -80,10 +80,22 @@ fn fresh(n: usize) -> Ring {
     Ring::zero().fresh(n).ring
 }
 
-// One step without marks, with room for every record.
-fn quiet(ring: Ring) -> Stepped {
+// One step of a ring, with room for every record.
+fn try_step(name: &[u8], ring: Ring, send: bool, receive: u32) {
     let mut trail = trail::empty();
-    ring.step(false, 0, &mut trail)
+    report(name, ring.step(send, receive, &mut trail));
+}
+
+fn try_quiet(name: &[u8], ring: Ring) {
+    try_step(name, ring, false, 0);
+}
+
+fn try_fresh(name: &[u8], n: usize) {
+    report(name, Ring::zero().fresh(n));
+}
+
+fn try_verdict(name: &[u8], ring: Ring) {
+    report_verdict(name, ring.verdict());
 }
 
 // The step of a fresh ring of 4 in which the owner cannot send makes 3 records: with room for 3, and for 2.
@@ -112,89 +124,84 @@ fn rooms() {
 fn strangers() {
     let mut r = fresh(4);
     r.sets[1] = 16;
-    report(b"seat 4 in a set of a ring of 4", quiet(r));
+    try_quiet(b"seat 4 in a set of a ring of 4", r);
     r = fresh(4);
     r.sets[4] = 1;
-    report(b"seat 4 has a member", quiet(r));
+    try_quiet(b"seat 4 has a member", r);
     r = fresh(4);
     r.acks[31] = true;
-    report(b"seat 31 has an acknowledgement", quiet(r));
+    try_quiet(b"seat 31 has an acknowledgement", r);
     r = fresh(4);
     r.doubts[5] = true;
-    report(b"seat 5 has a doubt", quiet(r));
+    try_quiet(b"seat 5 has a doubt", r);
     r = fresh(4);
     r.faults[6] = 1;
-    report(b"seat 6 has a first fault", quiet(r));
+    try_quiet(b"seat 6 has a first fault", r);
 }
 
 // Sizes, times and counts at their limits and past them.
 fn limits_of_a_ring() {
     let mut r = fresh(4);
     r.n = 1;
-    report(b"a ring of 1", quiet(r));
+    try_quiet(b"a ring of 1", r);
     r.n = 33;
-    report(b"a ring of 33", quiet(r));
-    report(b"a ring of 32", quiet(fresh(32)));
+    try_quiet(b"a ring of 33", r);
+    try_quiet(b"a ring of 32", fresh(32));
     r = fresh(4);
     r.time = 4097;
-    report(b"time 4,097", quiet(r));
+    try_quiet(b"time 4,097", r);
     r.time = 7;
     r.faults[2] = 8;
-    report(b"a first fault at the time", quiet(r));
+    try_quiet(b"a first fault at the time", r);
     r.faults[2] = 7;
-    report(b"a first fault just before the time", quiet(r));
+    try_quiet(b"a first fault just before the time", r);
     r = fresh(4);
     r.records = limits::ROOM_MOST as u16 + 1;
-    report(b"more records than the room", quiet(r));
+    try_quiet(b"more records than the room", r);
     r.records = limits::ROOM_MOST as u16;
-    report(b"as many records as the room", quiet(r));
+    try_quiet(b"as many records as the room", r);
 }
 
 // Marks that no step has, and the last time; and which refusal comes first.
 fn marks_and_ends() {
-    let mut trail = trail::empty();
     let mut r = fresh(4);
-    report(
-        b"a receive mark for the owner",
-        r.step(false, 1, &mut trail),
-    );
-    report(
-        b"a receive mark for seat 4 of 4",
-        r.step(false, 16, &mut trail),
-    );
+    try_step(b"a receive mark for the owner", r, false, 1);
+    try_step(b"a receive mark for seat 4 of 4", r, false, 16);
     r.time = 4095;
-    report(b"time 4,095", r.step(false, 0, &mut trail));
+    try_quiet(b"time 4,095", r);
     r.time = 4096;
-    report(b"time 4,096", r.step(false, 0, &mut trail));
-    report(b"time 4,096 and a wrong mark", r.step(false, 1, &mut trail));
+    try_quiet(b"time 4,096", r);
+    try_step(b"time 4,096 and a wrong mark", r, false, 1);
     r.records = limits::ROOM_MOST as u16;
-    report(b"time 4,096 and a full trail", r.step(true, 0, &mut trail));
+    try_step(b"time 4,096 and a full trail", r, true, 0);
     r.n = 33;
-    report(b"not a ring and a wrong mark", r.step(false, 1, &mut trail));
+    try_step(b"not a ring and a wrong mark", r, false, 1);
 }
 
-fn starts_and_verdicts() {
-    let zero = Ring::zero();
-    report(b"a fresh ring of 1", zero.fresh(1));
-    report(b"a fresh ring of 2", zero.fresh(2));
-    report(b"a fresh ring of 32", zero.fresh(32));
-    report(b"a fresh ring of 33", zero.fresh(33));
-    report(b"a step of the zero ring", quiet(zero));
-    report_verdict(b"verdict on the zero ring", zero.verdict());
-    report_verdict(b"verdict on a fresh ring", fresh(2).verdict());
+fn starts() {
+    try_fresh(b"a fresh ring of 1", 1);
+    try_fresh(b"a fresh ring of 2", 2);
+    try_fresh(b"a fresh ring of 32", 32);
+    try_fresh(b"a fresh ring of 33", 33);
+    try_quiet(b"a step of the zero ring", Ring::zero());
+}
+
+fn verdicts() {
+    try_verdict(b"verdict on the zero ring", Ring::zero());
+    try_verdict(b"verdict on a fresh ring", fresh(2));
     let mut r = fresh(4);
     r.time = 9;
     r.faults[1] = 2;
     r.faults[2] = 7;
-    report_verdict(b"first faults at 1 and 6 of a ring of 4", r.verdict());
+    try_verdict(b"first faults at 1 and 6 of a ring of 4", r);
     r.faults[2] = 6;
-    report_verdict(b"first faults at 1 and 5 of a ring of 4", r.verdict());
+    try_verdict(b"first faults at 1 and 5 of a ring of 4", r);
     r = fresh(2);
     r.time = 9;
     r.faults[0] = 3;
-    report_verdict(b"one sound seat of a ring of 2", r.verdict());
+    try_verdict(b"one sound seat of a ring of 2", r);
     r.records = limits::ROOM_MOST as u16 + 1;
-    report_verdict(b"verdict with 1,025 records", r.verdict());
+    try_verdict(b"verdict with 1,025 records", r);
 }
 
 fn main() {
@@ -202,5 +209,6 @@ fn main() {
     strangers();
     limits_of_a_ring();
     marks_and_ends();
-    starts_and_verdicts();
+    starts();
+    verdicts();
 }
