@@ -12,22 +12,22 @@ use Rattle.limits.specs.Refusals.{Told, done, refused}
 use Rattle.limits.specs.declared.Refusal.TheVariants.{NotARing, WrongMark, AtTheEnd, NoRoom}
 use Rattle.lists.specs.Counted.{sum}
 use Rattle.seats.specs.Sets.{size_of}
-use Rattle.ring.specs.Ring.{seatOf, freshRing, zeroRing, is_ring, everySeatStands}
+use Rattle.ring.specs.Ring.{seat_of, fresh_ring, zero_ring, is_ring, every_seat_stands}
 use Rattle.turn.specs.Turn.{turn_of}
-use Rattle.ring.specs.Refusals.{stepTells, stepTold}
-use Rattle.ring.specs.Promise.{StepPromise, ringOf, trailOf}
+use Rattle.ring.specs.Refusals.{step_tells, step_told}
+use Rattle.ring.specs.Promise.{StepPromise, ring_of, trail_of}
 use Rattle.ring.specs.declared.Ring.{Ring}
 use Rattle.ring.specs.declared.Stepped.{Stepped}
 use Rattle.ring.specs.declared.StepAnswer.{StepAnswer}
 use Rattle.ring.specs.declared.StepAnswer.TheVariants.{Taken, Refused}
 use Rattle.turn.specs.declared.Seat.{Seat}
-use Rattle.steps.specs.Run.{Marks, quiet, sendFault, Bench, toldOn, stepOn, freshBench, Reached, start, taken}
+use Rattle.steps.specs.Run.{Marks, quiet, send_fault, Bench, told_on, step_on, fresh_bench, Reached, start, taken}
 use Rattle.limits.proofs.Refusals.{not_done}
-use Rattle.demand2.specs.Empty.{Program, made, on, Keeps, RefusesAll, refuser, Constant, constantly, StandsStill, sleeper, FirstOnly, firstTimer, Invents, inventor}
-use Rattle.demand2.specs.Refused.{Answered, not-a-ring, wrong-mark, at-the-end, no_room}
+use Rattle.demand2.specs.Empty.{Program, made, on, Keeps, RefusesAll, refuser, Constant, constantly, StandsStill, sleeper, FirstOnly, first_timer, Invents, inventor}
+use Rattle.demand2.specs.Refused.{Answered, not_a_ring, wrong-mark, at_the_end, no_room}
 use Rattle.demand2.specs.Refused as row
 use Rattle.demand2.proofs.Refused.{answers}
-use Rattle.demand2.proofs.Sum.{reached-sum}
+use Rattle.demand2.proofs.Sum.{reached_sum}
 
 -- ---- what is said
 
@@ -38,17 +38,17 @@ ShutOut Kind = (f : Program) → Kind f → Keeps f → ⊥
 -- ---- the benches at which they are caught: a fresh ring of 4 with room for 3 records, and the same a quiet step later
 
 bench₀ : Bench
-bench₀ = freshBench 4 (replicate 15 0)
+bench₀ = fresh_bench 4 (replicate 15 0)
 
 bench₁ : Bench
-bench₁ = stepOn quiet bench₀
+bench₁ = step_on quiet bench₀
 
 run₀ : Reached 4 (replicate 15 0) bench₀
 unfolding bench₀
 run₀ = start
 
 run₁ : Reached 4 (replicate 15 0) bench₁
-unfolding bench₁ bench₀ ringOf trailOf stepTold is_ring everySeatStands freshRing zeroRing turn_of
+unfolding bench₁ bench₀ ring_of trail_of step_told is_ring every_seat_stands fresh_ring zero_ring turn_of
 run₁ = taken run₀ quiet refl
 
 module _ (f : Program) (keeps : Keeps f) where
@@ -60,31 +60,31 @@ module _ (f : Program) (keeps : Keeps f) where
 
 -- ---- what the promise says there
 
-told₀ : toldOn quiet bench₀ ≡ done
-unfolding bench₀ stepTold is_ring everySeatStands freshRing zeroRing turn_of
+told₀ : told_on quiet bench₀ ≡ done
+unfolding bench₀ step_told is_ring every_seat_stands fresh_ring zero_ring turn_of
 told₀ = refl
 
-time₀ : (stepOn quiet bench₀).ring.time ≡ 1
-unfolding bench₀ ringOf stepTold is_ring everySeatStands freshRing zeroRing turn_of
+time₀ : (step_on quiet bench₀).ring.time ≡ 1
+unfolding bench₀ ring_of step_told is_ring every_seat_stands fresh_ring zero_ring turn_of
 time₀ = refl
 
-time₁ : (stepOn quiet bench₁).ring.time ≡ 2
-unfolding bench₁ bench₀ ringOf trailOf stepTold is_ring everySeatStands freshRing zeroRing turn_of
+time₁ : (step_on quiet bench₁).ring.time ≡ 2
+unfolding bench₁ bench₀ ring_of trail_of step_told is_ring every_seat_stands fresh_ring zero_ring turn_of
 time₁ = refl
 
-set₀ : ((seatOf (stepOn sendFault bench₀).ring 1).set ≡ 14) × ((seatOf bench₀.ring 1).set ≡ 15)
-unfolding bench₀ ringOf stepTold is_ring everySeatStands freshRing zeroRing turn_of
+set₀ : ((seat_of (step_on send_fault bench₀).ring 1).set ≡ 14) × ((seat_of bench₀.ring 1).set ≡ 15)
+unfolding bench₀ ring_of step_told is_ring every_seat_stands fresh_ring zero_ring turn_of
 set₀ = (refl, refl)
 
-set₁ : ((seatOf (stepOn sendFault bench₁).ring 0).set ≡ 13) × ((seatOf bench₁.ring 0).set ≡ 15) × (bench₁.ring.time ≡ 1)
-unfolding bench₁ bench₀ ringOf trailOf stepTold is_ring everySeatStands freshRing zeroRing turn_of
+set₁ : ((seat_of (step_on send_fault bench₁).ring 0).set ≡ 13) × ((seat_of bench₁.ring 0).set ≡ 15) × (bench₁.ring.time ≡ 1)
+unfolding bench₁ bench₀ ring_of trail_of step_told is_ring every_seat_stands fresh_ring zero_ring turn_of
 set₁ = (refl, refl, refl)
 
 -- ---- the theorems
 
 -- one that refuses everything
-pub refuses-all : ShutOut RefusesAll
-refuses-all f kind keeps =
+pub refuses_all : ShutOut RefusesAll
+refuses_all f kind keeps =
     let k = at₀ f keeps quiet (omega arith) in
     let r = kind bench₀.ring quiet.send quiet.receive bench₀.trail in
     not_done (sym r.2 ∙ k.answer ∙ told₀)
@@ -102,17 +102,17 @@ constant f kind keeps =
 -- one that steps without changing anything
 pub stands-still : ShutOut StandsStill
 stands-still f kind keeps =
-    let a = (at₀ f keeps sendFault (omega arith)).ring in
-    let k = kind bench₀.ring sendFault.send sendFault.receive bench₀.trail 1 in
-    omega (arith, sym set₀.0 ∙ ap (λ (r : Ring). (seatOf r 1).set) (sym a) ∙ ap (λ (s : Seat). s.set) k ∙ set₀.1)
+    let a = (at₀ f keeps send_fault (omega arith)).ring in
+    let k = kind bench₀.ring send_fault.send send_fault.receive bench₀.trail 1 in
+    omega (arith, sym set₀.0 ∙ ap (λ (r : Ring). (seat_of r 1).set) (sym a) ∙ ap (λ (s : Seat). s.set) k ∙ set₀.1)
 
 -- one that applies the rules at time 0 and afterwards only advances the time
 pub first-only : ShutOut FirstOnly
 first-only f kind keeps =
-    let a = (at₁ f keeps sendFault (omega arith)).ring in
+    let a = (at₁ f keeps send_fault (omega arith)).ring in
     let z = set₁.2 in
-    let k = kind bench₁.ring sendFault.send sendFault.receive bench₁.trail (omega arith) 0 in
-    omega (arith, sym set₁.0 ∙ ap (λ (r : Ring). (seatOf r 0).set) (sym a) ∙ ap (λ (s : Seat). s.set) k ∙ set₁.1)
+    let k = kind bench₁.ring send_fault.send send_fault.receive bench₁.trail (omega arith) 0 in
+    omega (arith, sym set₁.0 ∙ ap (λ (r : Ring). (seat_of r 0).set) (sym a) ∙ ap (λ (s : Seat). s.set) k ∙ set₁.1)
 
 -- one that invents its record count
 pub invents : ShutOut Invents
@@ -120,10 +120,10 @@ invents f kind keeps =
     let b = kind.bench in
     let m = kind.marks in
     let k = keeps kind.n kind.bytes kind.low kind.high kind.small b kind.run m kind.mask in
-    let e : toldOn m b ≡ done = sym k.answer ∙ kind.taken in
-    let s = (reached-sum kind.n (replicate kind.bytes 0) kind.low kind.high (taken kind.run m e)).total in
+    let e : told_on m b ≡ done = sym k.answer ∙ kind.taken in
+    let s = (reached_sum kind.n (replicate kind.bytes 0) kind.low kind.high (taken kind.run m e)).total in
     kind.wrong
-    (subst (λ (r : Ring). sum kind.n (λ p. size_of (seatOf r p).set) + r.records ≡ kind.n * kind.n) (sym k.ring) s)
+    (subst (λ (r : Ring). sum kind.n (λ p. size_of (seat_of r p).set) + r.records ≡ kind.n * kind.n) (sym k.ring) s)
 
 -- ---- each kind has the program written out for it
 
@@ -131,16 +131,16 @@ refuser-is : RefusesAll refuser
 refuser-is r send receive t = (10, 0, refl)
 
 constantly-is : Constant constantly
-constantly-is = ((constantly zeroRing false 0 []).stepped, λ r send receive t. refl)
+constantly-is = ((constantly zero_ring false 0 []).stepped, λ r send receive t. refl)
 
 sleeper-is : StandsStill sleeper
 sleeper-is r send receive t p = refl
 
-first-timer-is : FirstOnly firstTimer
-first-timer-is r send receive t l p = rw (ne_eqb r.time 0 (omega arith))
+first_timer_is : FirstOnly first_timer
+first_timer_is r send receive t l p = rw (ne_eqb r.time 0 (omega arith))
 
 inventor-is : Invents inventor
-unfolding bench₀ ringOf stepTold is_ring everySeatStands freshRing zeroRing turn_of
+unfolding bench₀ ring_of step_told is_ring every_seat_stands fresh_ring zero_ring turn_of
 inventor-is = record {
   n = 4;
   bytes = 15;
@@ -163,16 +163,16 @@ answer_of done = Taken
 answer_of (refused number place) =
     Refused (cond (eqb number 10) NotARing (cond (eqb number 6) WrongMark (cond (eqb number 9) AtTheEnd NoRoom))) place
 
-answer-told : (r : Ring) (send : Bool) (receive bytes : ℕ) (a : Told) → Answered r send receive bytes a → stepTells (answer_of a) ≡ a
+answer-told : (r : Ring) (send : Bool) (receive bytes : ℕ) (a : Told) → Answered r send receive bytes a → step_tells (answer_of a) ≡ a
 unfolding answer_of
-answer-told r send receive bytes a (not-a-ring h) = refl
+answer-told r send receive bytes a (not_a_ring h) = refl
 answer-told r send receive bytes a (wrong-mark v w) = refl
-answer-told r send receive bytes a (at-the-end v w e) = refl
+answer-told r send receive bytes a (at_the_end v w e) = refl
 answer-told r send receive bytes a (no_room v w l k) = refl
 answer-told r send receive bytes a (row.taken v w l k) = refl
 
 keeper : Program
-keeper r send receive t = made (answer_of (stepTold r send receive (length t))) (ringOf r send receive t) (trailOf r send receive t)
+keeper r send receive t = made (answer_of (step_told r send receive (length t))) (ring_of r send receive t) (trail_of r send receive t)
 
 keeper-keeps : Keeps keeper
 unfolding keeper

@@ -2,10 +2,10 @@
 use mathlib.Core.Path.{◌≡◌, refl, sym, ap, ◌∙◌}
 use mathlib.Core.Bool.{Bool, true, false, not, ◌&&◌, true≢false}
 use Prim.Native.Nat.{ℕ}
-use Rattle.seats.specs.Sets.{hasSeat}
+use Rattle.seats.specs.Sets.{has_seat}
 use Rattle.seats.proofs.Sets.{without_other}
-use Rattle.ring.specs.Ring.{seatOf, ownerOf}
-use Rattle.turn.specs.Turn.{otherTurn, turn_of}
+use Rattle.ring.specs.Ring.{seat_of, owner_of}
+use Rattle.turn.specs.Turn.{other_turn, turn_of}
 use Rattle.ring.specs.Step.{slot_of}
 use Rattle.ring.specs.declared.Ring.{Ring}
 use Rattle.turn.specs.declared.Seat.{Seat}
@@ -13,11 +13,11 @@ use Rattle.turn.specs.declared.Slot.{Slot}
 use Rattle.turn.specs.declared.Spoken.{Spoken}
 use Rattle.turn.specs.declared.Spoken.TheVariants.{Nothing, Bit}
 use Rattle.turn.specs.declared.Turn.{Turn}
-use Rattle.turn.proofs.TurnLaws.{turn-out, turn-owner, turn-other, turn-still, turn-elim}
-use Rattle.demand2.specs.Marks.{speaks, sendHolds, receiveHolds, unmarked, IdleSend, IdleReceive, OwnReceive}
+use Rattle.turn.proofs.TurnLaws.{turn_out, turn_owner, turn_other, turn_still, turn_elim}
+use Rattle.demand2.specs.Marks.{speaks, send_holds, receive_holds, unmarked, IdleSend, IdleReceive, OwnReceive}
 
 -- a seat that expects the owner hears nothing where the owner is silent, marked or not
-silent-same : (c : Slot) (p q : ℕ) (s : Seat) → speaks c.spoken ≡ false → otherTurn (unmarked c q) p s ≡ otherTurn c p s
+silent-same : (c : Slot) (p q : ℕ) (s : Seat) → speaks c.spoken ≡ false → other_turn (unmarked c q) p s ≡ other_turn c p s
 silent-same c p q s e = rw (nothing c.spoken e)
   where
     nothing : (x : Spoken) → speaks x ≡ false → x ≡ Nothing
@@ -32,20 +32,20 @@ holds_not false b c x y e = absurd (true≢false (sym x))
 pub idle-receive : IdleReceive
 idle-receive c p s e =
     let d = unmarked c p in
-    turn-elim c p s (λ (t : Turn). turn_of d p s ≡ t)
-    (λ h. turn-out d p s h)
-    (λ h q. turn-owner d p s h q)
-    (λ h n g. turn-other d p s h n g ∙ silent-same c p p s (holds_not (hasSeat s.set p) (hasSeat s.set c.owner) (speaks c.spoken) h g e))
-    (λ h n g. turn-still d p s h n g)
+    turn_elim c p s (λ (t : Turn). turn_of d p s ≡ t)
+    (λ h. turn_out d p s h)
+    (λ h q. turn_owner d p s h q)
+    (λ h n g. turn_other d p s h n g ∙ silent-same c p p s (holds_not (has_seat s.set p) (has_seat s.set c.owner) (speaks c.spoken) h g e))
+    (λ h n g. turn_still d p s h n g)
 
 pub own-receive : OwnReceive
 own-receive c p q s away =
     let d = unmarked c q in
-    turn-elim c p s (λ (t : Turn). turn_of d p s ≡ t)
-    (λ h. turn-out d p s h)
-    (λ h e. turn-owner d p s h e)
-    (λ h n g. turn-other d p s h n g ∙ rw (without_other c.receive q p away))
-    (λ h n g. turn-still d p s h n g)
+    turn_elim c p s (λ (t : Turn). turn_of d p s ≡ t)
+    (λ h. turn_out d p s h)
+    (λ h e. turn_owner d p s h e)
+    (λ h n g. turn_other d p s h n g ∙ rw (without_other c.receive q p away))
+    (λ h n g. turn_still d p s h n g)
 
 not-out : (a : Bool) → not (not a) ≡ false → a ≡ false
 not-out true e = e
@@ -55,10 +55,10 @@ pub idle-send : IdleSend
 idle-send r receive p e =
     let c = slot_of r false receive in
     let d = slot_of r true receive in
-    let s = seatOf r p in
-    let gone = not-out (hasSeat (seatOf r (ownerOf r)).set (ownerOf r)) e in
-    turn-elim c p s (λ (t : Turn). turn_of d p s ≡ t)
-    (λ h. turn-out d p s h)
-    (λ h q. absurd (true≢false (sym h ∙ ap (λ (x : ℕ). hasSeat (seatOf r x).set x) q ∙ gone)))
-    (λ h n g. turn-other d p s h n g ∙ rw gone)
-    (λ h n g. turn-still d p s h n g)
+    let s = seat_of r p in
+    let gone = not-out (has_seat (seat_of r (owner_of r)).set (owner_of r)) e in
+    turn_elim c p s (λ (t : Turn). turn_of d p s ≡ t)
+    (λ h. turn_out d p s h)
+    (λ h q. absurd (true≢false (sym h ∙ ap (λ (x : ℕ). has_seat (seat_of r x).set x) q ∙ gone)))
+    (λ h n g. turn_other d p s h n g ∙ rw gone)
+    (λ h n g. turn_still d p s h n g)

@@ -11,12 +11,12 @@ use lib.ListN.{length, get_or, replicate}
 use borrow.Author.Tests.{ne_eqb, ltb-true, ltb-false}
 use Rattle.limits.specs.Refusals.{done}
 use Rattle.lists.proofs.Tests.{both}
-use Rattle.ring.specs.Ring.{seatOf, freshRing, zeroRing, is_ring, everySeatStands}
+use Rattle.ring.specs.Ring.{seat_of, fresh_ring, zero_ring, is_ring, every_seat_stands}
 use Rattle.turn.specs.Turn.{turn_of}
-use Rattle.ring.specs.Step.{slot_of, countIn, ringAfter, trailAfter}
+use Rattle.ring.specs.Step.{slot_of, count_in, ring_after, trail_after}
 use Rattle.trail.specs.Trail.{width}
-use Rattle.ring.specs.Refusals.{stepTells, stepTold}
-use Rattle.ring.specs.Promise.{StepPromise, ringOf, trailOf}
+use Rattle.ring.specs.Refusals.{step_tells, step_told}
+use Rattle.ring.specs.Promise.{StepPromise, ring_of, trail_of}
 use Rattle.ring.specs.declared.Ring.{Ring}
 use Rattle.turn.specs.declared.Seat.{Seat}
 use Rattle.turn.specs.declared.Slot.{Slot}
@@ -24,15 +24,15 @@ use Rattle.ring.specs.declared.Stepped.{Stepped}
 use Rattle.ring.specs.declared.StepAnswer.TheVariants.{Taken}
 use Rattle.steps.proofs.Taken.{told-taken, taken-ring, taken-trail}
 use Rattle.trail.proofs.RecordLaws.{room-bytes}
-use Rattle.steps.proofs.After.{seat-after, seat-beyond, length-after}
-use Rattle.trail.specs.Trail.{recordAt}
+use Rattle.steps.proofs.After.{seat-after, seat_beyond, length-after}
+use Rattle.trail.specs.Trail.{record_at}
 use Rattle.trail.specs.declared.Record.{Record}
-use Rattle.demand2.specs.Records.{passing, tellsOf}
+use Rattle.demand2.specs.Records.{passing, tells_of}
 use Rattle.demand2.specs.Story.{left, Says, Before, OneStory}
-use Rattle.trail.specs.Trail.{noRecord}
-use Rattle.demand2.proofs.Entries.{recordsIn, records-count, record-within, byte-outside}
+use Rattle.trail.specs.Trail.{no_record}
+use Rattle.demand2.proofs.Entries.{records_in, records_count, record_within, byte-outside}
 use Rattle.demand2.proofs.Tally.{one, tally, tally-holder, tally-nobody, passing_step}
-use Rattle.demand2.proofs.Gone.{left-same, turn-left}
+use Rattle.demand2.proofs.Gone.{left-same, turn_left}
 use Rattle.demand2.proofs.Standing.{says-step, ordered_step}
 
 -- ---- what is said
@@ -40,53 +40,53 @@ use Rattle.demand2.proofs.Standing.{says-step, ordered_step}
 -- every step that keeps the engine's promise and is taken
 abbrev pub OneStoryEach : Type 0
 OneStoryEach = (r : Ring) (send : Bool) (receive : ℕ) (t : List ℕ) (s : Stepped) (t' : List ℕ) → StepPromise r send receive t s t'
-    → stepTells s.answer ≡ done → OneStory r (slot_of r send receive) t s.ring t'
+    → step_tells s.answer ≡ done → OneStory r (slot_of r send receive) t s.ring t'
 
 -- ---- the records that tell of one holder and one removed seat
 
 module _ (r : Ring) (c : Slot) (p q : ℕ) where
-  alone : (e : Record) → (e.holder ≡ p → ⊥) → tellsOf p q e ≡ false
+  alone : (e : Record) → (e.holder ≡ p → ⊥) → tells_of p q e ≡ false
   alone e n = rw (ne_eqb e.holder p n)
 
-  step-tally : tally (tellsOf p q) (recordsIn r c) ≡ one (left (seatOf r p).set (seatOf (ringAfter r c) p).set q)
+  step-tally : tally (tells_of p q) (records_in r c) ≡ one (left (seat_of r p).set (seat_of (ring_after r c) p).set q)
   step-tally =
       ⊎_elim
       (λ t.
       let l = ltb-true p r.n t in
-      tally-holder r c (tellsOf p q) p alone l
-      ∙ turn-left r.time c p q (seatOf r p)
-      ∙ sym (ap (λ (s : Seat). one (left (seatOf r p).set s.set q)) (seat-after r c p l)))
+      tally-holder r c (tells_of p q) p alone l
+      ∙ turn_left r.time c p q (seat_of r p)
+      ∙ sym (ap (λ (s : Seat). one (left (seat_of r p).set s.set q)) (seat-after r c p l)))
       (λ f.
       let l = ltb-false p r.n f in
-      tally-nobody r c (tellsOf p q) p alone l
-      ∙ sym (ap one (left-same (seatOf r p).set q))
-      ∙ sym (ap (λ (s : Seat). one (left (seatOf r p).set s.set q)) (seat-beyond r c p l)))
+      tally-nobody r c (tells_of p q) p alone l
+      ∙ sym (ap one (left-same (seat_of r p).set q))
+      ∙ sym (ap (λ (s : Seat). one (left (seat_of r p).set s.set q)) (seat_beyond r c p l)))
       (both (ltb p r.n))
 
 -- ---- the step
 
-module _ (r : Ring) (c : Slot) (t : List ℕ) (fits : width * (r.records + countIn r c) ≤ length t) where
+module _ (r : Ring) (c : Slot) (t : List ℕ) (fits : width * (r.records + count_in r c) ≤ length t) where
   -- record i of the step
-  at-record : (i : ℕ) → r.records ≤ i → i < r.records + countIn r c → get_or (recordsIn r c) (i - r.records) noRecord ≡ recordAt (trailAfter r c t) i
-  at-record i l h =
+  at_record : (i : ℕ) → r.records ≤ i → i < r.records + count_in r c → get_or (records_in r c) (i - r.records) no_record ≡ record_at (trail_after r c t) i
+  at_record i l h =
       let q : r.records + (i - r.records) ≡ i = omega arith in
-      sym (record-within r c t fits (i - r.records) (omega arith)) ∙ ap (recordAt (trailAfter r c t)) q
+      sym (record_within r c t fits (i - r.records) (omega arith)) ∙ ap (record_at (trail_after r c t)) q
 
-  pub story-after : OneStory r c t (ringAfter r c) (trailAfter r c t)
+  pub story-after : OneStory r c t (ring_after r c) (trail_after r c t)
   story-after =
-      let m = records-count r c in
+      let m = records_count r c in
       record {
         counted = λ p q.
-            let k : r.records + countIn r c - r.records ≡ countIn r c = omega arith in
-            ap (λ (x : ℕ). passing (tellsOf p q) r.records x (trailAfter r c t)) k
-            ∙ passing_step (tellsOf p q) r c t fits
+            let k : r.records + count_in r c - r.records ≡ count_in r c = omega arith in
+            ap (λ (x : ℕ). passing (tells_of p q) r.records x (trail_after r c t)) k
+            ∙ passing_step (tells_of p q) r c t fits
             ∙ step-tally r c p q;
-        says = λ i l h. subst (Says r c) (at-record i l h) (says-step r c (i - r.records) (omega arith));
+        says = λ i l h. subst (Says r c) (at_record i l h) (says-step r c (i - r.records) (omega arith));
         order = λ i j l k h.
-            let a = at-record i l (omega arith) in
-            let b = at-record j (omega arith) h in
+            let a = at_record i l (omega arith) in
+            let b = at_record j (omega arith) h in
             let o = ordered_step r c (i - r.records) (j - r.records) (omega arith) (omega arith) in
-            subst (λ (e : Record). Before e (recordAt (trailAfter r c t) j)) a (subst (λ (e : Record). Before (get_or (recordsIn r c) (i - r.records) noRecord) e) b o);
+            subst (λ (e : Record). Before e (record_at (trail_after r c t) j)) a (subst (λ (e : Record). Before (get_or (records_in r c) (i - r.records) no_record) e) b o);
         outside = λ j h. byte-outside r c t fits j h;
         size = length-after r c t fits;
       }
@@ -100,12 +100,12 @@ one-story r send receive t s t' p e =
     let c = slot_of r send receive in
     let a = sym (p.ring ∙ taken-ring r send receive t d) in
     let b = sym (p.trail ∙ taken-trail r send receive t d) in
-    subst (λ (x : Ring). OneStory r c t x t') a (subst (λ (x : List ℕ). OneStory r c t (ringAfter r c) x) b (story-after r c t (room-bytes _ _ k.room)))
+    subst (λ (x : Ring). OneStory r c t x t') a (subst (λ (x : List ℕ). OneStory r c t (ring_after r c) x) b (story-after r c t (room-bytes _ _ k.room)))
 
 -- ---- one such step: a fresh ring of 4, a send mark for seat 0, room for 3 records; each of the others removes seat 0 by c
 
-example : StepPromise (freshRing 4) true 0 (replicate 15 7)
-    (record { answer = Taken; ring = ringOf (freshRing 4) true 0 (replicate 15 7) })
+example : StepPromise (fresh_ring 4) true 0 (replicate 15 7)
+    (record { answer = Taken; ring = ring_of (fresh_ring 4) true 0 (replicate 15 7) })
     (0 ∷ 0 ∷ 1 ∷ 0 ∷ 99 ∷ 0 ∷ 0 ∷ 2 ∷ 0 ∷ 99 ∷ 0 ∷ 0 ∷ 3 ∷ 0 ∷ 99 ∷ [])
-unfolding ringOf trailOf stepTold is_ring everySeatStands freshRing zeroRing turn_of
+unfolding ring_of trail_of step_told is_ring every_seat_stands fresh_ring zero_ring turn_of
 example = record { answer = refl; ring = refl; trail = refl }

@@ -6,20 +6,20 @@ use Prim.Native.Nat.{ℕ, ◌+◌, ◌*◌, ◌≤◌, ◌<◌}
 use native.Mathlib.Nat.{zero-add}
 use native.Mathlib.Omega.{arith}
 use lib.ListN.{length, get_or}
-use Rattle.lists.specs.Counted.{sum, countBelow}
-use Rattle.lists.proofs.Counted.{sum_same, sum-split, sum-zero, sum-only}
+use Rattle.lists.specs.Counted.{sum, count_below}
+use Rattle.lists.proofs.Counted.{sum_same, sum_split, sum-zero, sum-only}
 use Rattle.lists.proofs.Each as each
 use Rattle.turn.specs.Table.{Gone}
-use Rattle.ring.specs.Step.{goneAt, countIn, trailAfter}
+use Rattle.ring.specs.Step.{gone_at, count_in, trail_after}
 use Rattle.trail.specs.Trail.{width}
 use Rattle.ring.specs.declared.Ring.{Ring}
 use Rattle.turn.specs.declared.Slot.{Slot}
-use Rattle.trail.specs.Trail.{recordAt}
+use Rattle.trail.specs.Trail.{record_at}
 use Rattle.trail.specs.declared.Record.{Record}
 use Rattle.demand2.specs.Records.{passing}
-use Rattle.trail.specs.Trail.{noRecord, recordOf, recordsOf}
-use Rattle.ring.specs.Step.{recordsAt}
-use Rattle.demand2.proofs.Entries.{recordsIn, records-count, record-before, record-within}
+use Rattle.trail.specs.Trail.{no_record, record_of, records_of}
+use Rattle.ring.specs.Step.{records_at}
+use Rattle.demand2.proofs.Entries.{records_in, records_count, record_before, record_within}
 
 -- ---- the entries of a list that pass
 
@@ -27,58 +27,58 @@ abbrev pub one : Bool → ℕ
 one b = cond b 1 0
 
 abbrev pub tally : (Record → Bool) → List Record → ℕ
-tally = each.tally noRecord
+tally = each.tally no_record
 
 -- the entries of one holder: none passes, or all do
 module _ (test : Record → Bool) (time p : ℕ) where
-  tally-more : (g : Gone) (gs : List Gone) → tally test (recordsOf time p (g ∷ gs)) ≡ 0 + one (test (recordOf time p g)) + tally test (recordsOf time p gs)
-  tally-more g gs = each.tally-append noRecord (recordOf time p g ∷ []) (recordsOf time p gs) test
+  tally-more : (g : Gone) (gs : List Gone) → tally test (records_of time p (g ∷ gs)) ≡ 0 + one (test (record_of time p g)) + tally test (records_of time p gs)
+  tally-more g gs = each.tally-append no_record (record_of time p g ∷ []) (records_of time p gs) test
 
-  tally-none : ((g : Gone) → test (recordOf time p g) ≡ false) → (gs : List Gone) → tally test (recordsOf time p gs) ≡ 0
+  tally-none : ((g : Gone) → test (record_of time p g) ≡ false) → (gs : List Gone) → tally test (records_of time p gs) ≡ 0
   tally-none h [] = refl
   tally-none h (g ∷ more) = tally-more g more ∙ let a = tally-none h more in let b = ap one (h g) in omega arith
 
-  pub tally-all : ((g : Gone) → test (recordOf time p g) ≡ true) → (gs : List Gone) → tally test (recordsOf time p gs) ≡ length gs
+  pub tally-all : ((g : Gone) → test (record_of time p g) ≡ true) → (gs : List Gone) → tally test (records_of time p gs) ≡ length gs
   tally-all h [] = refl
   tally-all h (g ∷ more) = tally-more g more ∙ let a = tally-all h more in let b = ap one (h g) in omega arith
 
 -- ---- the entries of a step that pass a test of one holder
 
 module _ (r : Ring) (c : Slot) (test : Record → Bool) (p : ℕ) (alone : (e : Record) → (e.holder ≡ p → ⊥) → test e ≡ false) where
-  others-none : (q : ℕ) → (q ≡ p → ⊥) → tally test (recordsAt r c q) ≡ 0
-  others-none q n = tally-none test r.time q (λ g. alone (recordOf r.time q g) n) (goneAt r c q)
+  others-none : (q : ℕ) → (q ≡ p → ⊥) → tally test (records_at r c q) ≡ 0
+  others-none q n = tally-none test r.time q (λ g. alone (record_of r.time q g) n) (gone_at r c q)
 
-  pub tally-holder : p < r.n → tally test (recordsIn r c) ≡ tally test (recordsAt r c p)
-  unfolding recordsIn
+  pub tally-holder : p < r.n → tally test (records_in r c) ≡ tally test (records_at r c p)
+  unfolding records_in
   tally-holder l =
-      each.tally-joined noRecord (recordsAt r c) test r.n ∙ sum-only (λ q. tally test (recordsAt r c q)) r.n p l others-none
+      each.tally-joined no_record (records_at r c) test r.n ∙ sum-only (λ q. tally test (records_at r c q)) r.n p l others-none
 
-  pub tally-nobody : r.n ≤ p → tally test (recordsIn r c) ≡ 0
-  unfolding recordsIn
+  pub tally-nobody : r.n ≤ p → tally test (records_in r c) ≡ 0
+  unfolding records_in
   tally-nobody l =
-      each.tally-joined noRecord (recordsAt r c) test r.n ∙ sum-zero (λ q. tally test (recordsAt r c q)) r.n (λ q m. others-none q (omega arith))
+      each.tally-joined no_record (records_at r c) test r.n ∙ sum-zero (λ q. tally test (records_at r c q)) r.n (λ q m. others-none q (omega arith))
 
 -- ---- the records of a trail that pass
 
 module _ (test : Record → Bool) where
-  pub passing-split : (k m : ℕ) (t : List ℕ) → passing test 0 (k + m) t ≡ passing test 0 k t + passing test k m t
+  pub passing_split : (k m : ℕ) (t : List ℕ) → passing test 0 (k + m) t ≡ passing test 0 k t + passing test k m t
   unfolding passing
-  passing-split k m t =
-      sum-split (λ i. one (test (recordAt t (0 + i)))) k m
-      ∙ ap (λ (x : ℕ). sum k (λ i. one (test (recordAt t (0 + i)))) + x)
-      (sum_same (λ i. one (test (recordAt t (0 + (k + i))))) (λ i. one (test (recordAt t (k + i)))) m
-      (λ i l. ap (λ (x : ℕ). one (test (recordAt t x))) (zero-add (k + i))))
+  passing_split k m t =
+      sum_split (λ i. one (test (record_at t (0 + i)))) k m
+      ∙ ap (λ (x : ℕ). sum k (λ i. one (test (record_at t (0 + i)))) + x)
+      (sum_same (λ i. one (test (record_at t (0 + (k + i))))) (λ i. one (test (record_at t (k + i)))) m
+      (λ i l. ap (λ (x : ℕ). one (test (record_at t x))) (zero-add (k + i))))
 
-  module _ (r : Ring) (c : Slot) (t : List ℕ) (fits : width * (r.records + countIn r c) ≤ length t) where
-    pub passing-before : passing test 0 r.records (trailAfter r c t) ≡ passing test 0 r.records t
+  module _ (r : Ring) (c : Slot) (t : List ℕ) (fits : width * (r.records + count_in r c) ≤ length t) where
+    pub passing-before : passing test 0 r.records (trail_after r c t) ≡ passing test 0 r.records t
     unfolding passing
     passing-before =
-        sum_same (λ i. one (test (recordAt (trailAfter r c t) (0 + i)))) (λ i. one (test (recordAt t (0 + i)))) r.records
-        (λ i l. ap (λ (e : Record). one (test e)) (record-before r c t fits (0 + i) (omega arith)))
+        sum_same (λ i. one (test (record_at (trail_after r c t) (0 + i)))) (λ i. one (test (record_at t (0 + i)))) r.records
+        (λ i l. ap (λ (e : Record). one (test e)) (record_before r c t fits (0 + i) (omega arith)))
 
-    pub passing_step : passing test r.records (countIn r c) (trailAfter r c t) ≡ tally test (recordsIn r c)
+    pub passing_step : passing test r.records (count_in r c) (trail_after r c t) ≡ tally test (records_in r c)
     unfolding passing
     passing_step =
-        sum_same (λ i. one (test (recordAt (trailAfter r c t) (r.records + i)))) (λ i. one (test (get_or (recordsIn r c) i noRecord))) (countIn r c)
-        (λ i l. ap (λ (e : Record). one (test e)) (record-within r c t fits i l))
-        ∙ ap (λ (k : ℕ). countBelow k (λ i. test (get_or (recordsIn r c) i noRecord))) (sym (records-count r c))
+        sum_same (λ i. one (test (record_at (trail_after r c t) (r.records + i)))) (λ i. one (test (get_or (records_in r c) i no_record))) (count_in r c)
+        (λ i l. ap (λ (e : Record). one (test e)) (record_within r c t fits i l))
+        ∙ ap (λ (k : ℕ). count_below k (λ i. test (get_or (records_in r c) i no_record))) (sym (records_count r c))

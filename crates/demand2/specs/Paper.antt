@@ -1,8 +1,8 @@
 -- The protocol of document 002 with the correction of its footnote 4, in its own words, beside the engine's
 -- definitions.
 use Rattle.std.specs.Prelude.{Bool, true, false, cond, not, ◌&&◌, ◌||◌, List, [], ◌∷◌, ℕ, ◌%◌, eqb}
-use Rattle.seats.specs.Sets.{hasSeat}
-use Rattle.ring.specs.Ring.{seatOf}
+use Rattle.seats.specs.Sets.{has_seat}
+use Rattle.ring.specs.Ring.{seat_of}
 use Rattle.ring.specs.declared.Ring.{Ring}
 use Rattle.turn.specs.declared.Cause.TheVariants.{A, B, C, D, E}
 use Rattle.turn.specs.declared.Removal.{Removal}
@@ -17,11 +17,11 @@ broadcaster r = r.time % r.n
 
 -- q is in p's local membership set
 abbrev pub membership : Ring → ℕ → ℕ → Bool
-membership r p q = hasSeat (seatOf r p).set q
+membership r p q = has_seat (seat_of r p).set q
 
 -- ack(p)
 abbrev pub ack : Ring → ℕ → Bool
-ack r p = (seatOf r p).ack
+ack r p = (seat_of r p).ack
 
 -- p expects a broadcast: it is in its own membership set, and so is the broadcaster
 abbrev pub expects : Ring → ℕ → Bool
@@ -35,37 +35,37 @@ broadcasts r m = membership r (broadcaster r) (broadcaster r) && not m.send
 
 -- arrived(b, p): p receives a broadcast from b, and b is the expected broadcaster
 abbrev pub arrived : Ring → Marks → ℕ → Bool
-arrived r m p = membership r p (broadcaster r) && broadcasts r m && not (hasSeat m.receive p)
+arrived r m p = membership r p (broadcaster r) && broadcasts r m && not (has_seat m.receive p)
 
 -- ---- the rules for a processor p that expects the broadcaster b and is not b
 
 -- what p decides from; ack(b) is that of the broadcast received
 pub record Knows : Type 0 where
   pub arrived : Bool
-  pub ackB : Bool
-  pub ackP : Bool
+  pub ack_b : Bool
+  pub ack_p : Bool
   -- footnote 4: p was the previous broadcaster and sent a false ack in that broadcast
-  pub sentFalse : Bool
+  pub sent_false : Bool
 
 -- (a) (NOT arrived(b,p)) AND NOT ack(p)
-abbrev pub caseA : Knows → Bool
-caseA k = not k.arrived && not k.ackP
+abbrev pub case_a : Knows → Bool
+case_a k = not k.arrived && not k.ack_p
 
 -- (b) arrived(b,p) AND ack(b) AND NOT ack(p)
-abbrev pub caseB : Knows → Bool
-caseB k = k.arrived && k.ackB && not k.ackP
+abbrev pub case_b : Knows → Bool
+case_b k = k.arrived && k.ack_b && not k.ack_p
 
 -- (c) NOT arrived(b,p)
-abbrev pub caseC : Knows → Bool
-caseC k = not k.arrived
+abbrev pub case_c : Knows → Bool
+case_c k = not k.arrived
 
 -- (d) ack(p) AND NOT ack(b)
-abbrev pub caseD : Knows → Bool
-caseD k = k.ackP && not k.ackB
+abbrev pub case_d : Knows → Bool
+case_d k = k.ack_p && not k.ack_b
 
 -- footnote 4: (d) by a broadcast that arrived, where p was the previous broadcaster and sent a false ack
-abbrev pub caseE : Knows → Bool
-caseE k = k.arrived && caseD k && k.sentFalse
+abbrev pub case_e : Knows → Bool
+case_e k = k.arrived && case_d k && k.sent_false
 
 -- what p does: whether it excludes itself and whether it excludes b, for which causes, and its updated ack
 pub record Does : Type 0 where
@@ -78,12 +78,12 @@ pub record Does : Type 0 where
 -- not where the footnote excludes p
 abbrev pub does : Knows → Does
 does k = record {
-  itself = caseA k || caseB k || caseE k;
-  broadcaster = caseC k || (caseD k && not (caseE k));
+  itself = case_a k || case_b k || case_e k;
+  broadcaster = case_c k || (case_d k && not (case_e k));
   causes =
-      cond (caseA k) (Both A C)
-      (cond (caseB k) (Itself B) (cond (caseE k) (Itself E) (cond (caseC k) (Owner C) (cond (caseD k) (Owner D) Nobody))));
-  ack = k.arrived && (k.ackB || not k.ackP);
+      cond (case_a k) (Both A C)
+      (cond (case_b k) (Itself B) (cond (case_e k) (Itself E) (cond (case_c k) (Owner C) (cond (case_d k) (Owner D) Nobody))));
+  ack = k.arrived && (k.ack_b || not k.ack_p);
 }
 
 -- ---- one processor in one step
@@ -93,8 +93,8 @@ pub record Updated : Type 0 where
   pub membership : ℕ → Bool
   pub ack : Bool
 
-abbrev pub knowsIn : Ring → Marks → Bool → ℕ → Knows
-knowsIn r m sentFalse p = record { arrived = arrived r m p; ackB = ack r (broadcaster r); ackP = ack r p; sentFalse = sentFalse }
+abbrev pub knows_in : Ring → Marks → Bool → ℕ → Knows
+knows_in r m sent_false p = record { arrived = arrived r m p; ack_b = ack r (broadcaster r); ack_p = ack r p; sent_false = sent_false }
 
 -- membership: the same but possibly for p and b
 abbrev pub received : Ring → ℕ → Does → Updated
@@ -106,9 +106,9 @@ received r p d = record {
 -- where b is not in p's membership set, none of the local variables are changed; the broadcaster sets its ack
 -- to true; any other is updated
 abbrev pub updated : Ring → Marks → Bool → ℕ → Updated
-updated r m sentFalse p =
+updated r m sent_false p =
     cond (membership r p (broadcaster r))
-    (cond (eqb p (broadcaster r)) (record { membership = membership r p; ack = true }) (received r p (does (knowsIn r m sentFalse p))))
+    (cond (eqb p (broadcaster r)) (record { membership = membership r p; ack = true }) (received r p (does (knows_in r m sent_false p))))
     (record { membership = membership r p; ack = ack r p })
 
 -- ---- what footnote 4 asks p to know
@@ -119,6 +119,6 @@ history start = []
 history (taken {b = b} w m e) = b.ring ∷ history w
 
 -- in the last slot that p expected, it was the broadcaster itself, and its ack before it was false
-abbrev pub sentFalse : ℕ → List Ring → Bool
-sentFalse p [] = false
-sentFalse p (r ∷ earlier) = cond (expects r p) (eqb p (broadcaster r) && not (ack r p)) (sentFalse p earlier)
+abbrev pub sent_false : ℕ → List Ring → Bool
+sent_false p [] = false
+sent_false p (r ∷ earlier) = cond (expects r p) (eqb p (broadcaster r) && not (ack r p)) (sent_false p earlier)

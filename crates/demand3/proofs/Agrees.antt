@@ -6,7 +6,7 @@ use Prim.Native.Nat.{ℕ, suc, ◌+◌, ◌%◌, ◌≤◌, ◌<◌}
 use native.Mathlib.Omega.{arith}
 use lib.Dec.{eqb, ltb}
 use borrow.Author.Tests.{eqb-true, eq-eqb, ne_eqb, ltb-true, ltb-false}
-use Rattle.lists.proofs.Tests.{both, and-true, and-of, same?}
+use Rattle.lists.proofs.Tests.{both, and-true, and_of, same?}
 use Rattle.demand3.proofs.Slots.{OwnSlot, own-slot}
 use Rattle.demand3.proofs.Model.{State, Sound, Faulty, Terms, Agrees}
 use Rattle.demand3.proofs.Seat.{Kind, sound, faulty, kind}
@@ -50,9 +50,9 @@ module _ (s : State) (w : Kept s) (terms : Terms s) where
           let far = terms.apart fx z.late ne (omega (arith, z.is)) in
           ahead k.at k.low (omega (arith, k.high, inv.since, z.is)) k.owner
 
-  kept-till : {p x f : ℕ} → Sound s p → Faulty s x f → ((k : ℕ) → f ≤ k → k < time → k % n ≡ x → ⊥) → set p x ≡ true
-  kept-till {p} {x} {f} sp fx ahead =
-      (inv.holds sp).others fx ∙ and-of is-due (eq-eqb (suc f) last (sym latest))
+  kept_till : {p x f : ℕ} → Sound s p → Faulty s x f → ((k : ℕ) → f ≤ k → k < time → k % n ≡ x → ⊥) → set p x ≡ true
+  kept_till {p} {x} {f} sp fx ahead =
+      (inv.holds sp).others fx ∙ and_of is-due (eq-eqb (suc f) last (sym latest))
     where
       latest : last ≡ suc f
       latest =
@@ -95,9 +95,9 @@ module _ (s : State) (w : Kept s) (terms : Terms s) where
   agrees = record {
     one_set = λ sp sq r hr. same_set sp sq (kind s r hr);
     one-ack = λ sp sq. (inv.holds sp).says ∙ sym (inv.holds sq).says;
-    sound-in = λ sp sq. (inv.holds sp).friends sq;
+    sound_in = λ sp sq. (inv.holds sp).friends sq;
     one-faulty = λ sp fx fy ix iy. alike fx fy (omega (arith, (held sp fx ix).1, (held sp fy iy).1));
     removed-by = removed-by;
-    kept-till = kept-till;
+    kept_till = kept_till;
     ended_by = ended_by;
   }

@@ -3,32 +3,32 @@
 use mathlib.Core.List.{List}
 use mathlib.Core.Path.{◌≡◌, sym, ap, ◌∙◌, subst}
 use Prim.Native.Nat.{ℕ, ◌≤◌, ◌<◌}
-use Rattle.limits.specs.Limits.{seatsLeast, seatsMost}
-use Rattle.seats.specs.Sets.{hasSeat}
+use Rattle.limits.specs.Limits.{seats_least, seats_most}
+use Rattle.seats.specs.Sets.{has_seat}
 use Rattle.seats.proofs.Sets.{full-has}
-use Rattle.ring.specs.Ring.{seatOf, freshSeat, freshRing}
+use Rattle.ring.specs.Ring.{seat_of, fresh_seat, fresh_ring}
 use Rattle.ring.specs.declared.Ring.{Ring}
 use Rattle.turn.specs.declared.Seat.{Seat}
 use Rattle.steps.specs.Run.{Marks, Bench, Reached}
-use Rattle.steps.proofs.Reached.{fresh-n, fresh-seat, fresh-beyond, benchAfter, reached-elim}
+use Rattle.steps.proofs.Reached.{fresh-n, fresh-seat, fresh_beyond, bench_after, reached_elim}
 use Rattle.demand3.proofs.Model.{Marked, Fresh, Terms, step}
-use Rattle.demand3.proofs.Seat.{back-terms}
+use Rattle.demand3.proofs.Seat.{back_terms}
 use Rattle.demand3.proofs.Kept.{Kept, fresh_kept, step_kept}
-use Rattle.demand3.proofs.View.{state_of, markedOf, EmptyBeyond, empty-after, state-after}
+use Rattle.demand3.proofs.View.{state_of, marked_of, EmptyBeyond, empty-after, state_after}
 
 -- ---- a fresh ring
 
-fresh-empty : (n : ℕ) → EmptyBeyond (freshRing n)
-fresh-empty n p h = ap (λ (s : Seat). s.set) (fresh-beyond n p (rw (fresh-n n) at h))
+fresh-empty : (n : ℕ) → EmptyBeyond (fresh_ring n)
+fresh-empty n p h = ap (λ (s : Seat). s.set) (fresh_beyond n p (rw (fresh-n n) at h))
 
-module _ (n : ℕ) (low : seatsLeast ≤ n) (high : n ≤ seatsMost) where
-  seat-is : (p : ℕ) → p < (freshRing n).n → seatOf (freshRing n) p ≡ freshSeat n
+module _ (n : ℕ) (low : seats_least ≤ n) (high : n ≤ seats_most) where
+  seat-is : (p : ℕ) → p < (fresh_ring n).n → seat_of (fresh_ring n) p ≡ fresh_seat n
   seat-is p h = fresh-seat n p (rw (fresh-n n) at h)
 
-  fresh-state : Fresh (state_of (freshRing n))
-  fresh-state = record {
+  fresh_state : Fresh (state_of (fresh_ring n))
+  fresh_state = record {
     size = rw (fresh-n n) low;
-    full = λ {p} {q} hp hq. ap (λ (s : Seat). hasSeat s.set q) (seat-is p hp) ∙ full-has n q high (rw (fresh-n n) at hq);
+    full = λ {p} {q} hp hq. ap (λ (s : Seat). has_seat s.set q) (seat-is p hp) ∙ full-has n q high (rw (fresh-n n) at hq);
     says = λ {p} h. ap (λ (s : Seat). s.ack) (seat-is p h);
     sure = λ {p} h. ap (λ (s : Seat). s.doubt) (seat-is p h);
     clean = λ {p} h. ap (λ (s : Seat). s.fault) (seat-is p h);
@@ -41,24 +41,24 @@ pub record Follows (b : Bench) : Type 0 where
   pub empty : EmptyBeyond b.ring
   pub kept : Terms (state_of b.ring) → Kept (state_of b.ring)
 
-follows-step : (m : Marks) (b : Bench) → Follows b → Follows (benchAfter m b)
-follows-step m b w = record { empty = empty-after r m.send m.receive w.empty; kept = λ t. subst Kept (sym is) (next (subst Terms is t)) }
+follows_step : (m : Marks) (b : Bench) → Follows b → Follows (bench_after m b)
+follows_step m b w = record { empty = empty-after r m.send m.receive w.empty; kept = λ t. subst Kept (sym is) (next (subst Terms is t)) }
   where
     r : Ring
     r = b.ring
 
     given : Marked
-    given = markedOf r m.send m.receive
+    given = marked_of r m.send m.receive
 
-    is : state_of (benchAfter m b).ring ≡ step given
-    is = state-after r m.send m.receive w.empty
+    is : state_of (bench_after m b).ring ≡ step given
+    is = state_after r m.send m.receive w.empty
 
     next : Terms (step given) → Kept (step given)
-    next t = step_kept given (w.kept (back-terms given t)) t
+    next t = step_kept given (w.kept (back_terms given t)) t
 
-module _ (n : ℕ) (trail : List ℕ) (low : seatsLeast ≤ n) (high : n ≤ seatsMost) where
+module _ (n : ℕ) (trail : List ℕ) (low : seats_least ≤ n) (high : n ≤ seats_most) where
   pub along : {b : Bench} → Reached n trail b → Follows b
   along =
-      reached-elim n trail low high Follows
-      (record { empty = fresh-empty n; kept = λ t. fresh_kept (state_of (freshRing n)) (fresh-state n low high) })
-      (λ m b s e. follows-step m b)
+      reached_elim n trail low high Follows
+      (record { empty = fresh-empty n; kept = λ t. fresh_kept (state_of (fresh_ring n)) (fresh_state n low high) })
+      (λ m b s e. follows_step m b)

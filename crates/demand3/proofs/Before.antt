@@ -4,22 +4,22 @@ use mathlib.Core.List.{List}
 use mathlib.Core.Path.{◌≡◌, sym, ap, ◌∙◌, subst}
 use Prim.Native.Nat.{ℕ, ◌+◌, ◌≤◌, ◌<◌}
 use native.Mathlib.Omega.{arith}
-use Rattle.limits.specs.Limits.{seatsLeast, seatsMost, roomMost}
+use Rattle.limits.specs.Limits.{seats_least, seats_most, room_most}
 use Rattle.limits.specs.Refusals.{done}
-use Rattle.ring.specs.Refusals.{verdictFound, within}
+use Rattle.ring.specs.Refusals.{verdict_found, within}
 use Rattle.ring.specs.declared.Ring.{Ring}
-use Rattle.steps.specs.Run.{Marks, Bench, toldOn, stepOn, Reached}
+use Rattle.steps.specs.Run.{Marks, Bench, told_on, step_on, Reached}
 use Rattle.ring.specs.Valid.{Valid}
-use Rattle.ring.proofs.Checked.{valid-ring, valid-wider}
-use Rattle.steps.proofs.Reached.{benchAfter, step_after, reached-stands}
+use Rattle.ring.proofs.Checked.{valid-ring, valid_wider}
+use Rattle.steps.proofs.Reached.{bench_after, step_after, reached_stands}
 use Rattle.demand3.specs.Faults.{FirstFault, Apart, TermsHold}
 use Rattle.demand3.specs.Verdict.{TermsKept}
 use Rattle.demand3.proofs.Model.{State, Faulty, Terms}
 use Rattle.demand3.proofs.Seat.{stays-faulty}
-use Rattle.demand3.proofs.View.{state_of, markedOf, state-after}
+use Rattle.demand3.proofs.View.{state_of, marked_of, state_after}
 use Rattle.demand3.proofs.Along.{along}
 use Rattle.demand3.proofs.Decided.{decides}
-use Rattle.demand3.proofs.Read.{to-faulty, from-faulty}
+use Rattle.demand3.proofs.Read.{to_faulty, from-faulty}
 
 -- ---- the fault terms, of the ring and of the state
 
@@ -31,23 +31,23 @@ module _ (r : Ring) (room : ℕ) (v : Valid r room) where
   pub apart_of : TermsKept r → Apart (r.n + 1) r r.time
   apart_of w = record { spaced = λ {x} {y} {f} {g} fx fy ne l m. (w g (past fy)).apart.spaced fx fy ne l (omega arith) }
 
-  pub terms-of : Apart (r.n + 1) r r.time → Terms (state_of r)
-  terms-of w = record {
+  pub terms_of : Apart (r.n + 1) r r.time → Terms (state_of r)
+  terms_of w = record {
     apart = λ {x} {y} {f} {g} fx fy ne l.
         omega (arith, w.spaced (from-faulty r fx) (from-faulty r fy) ne l (omega (arith, past (from-faulty r fy))));
   }
 
 -- ---- a step before
 
-module _ (n : ℕ) (trail : List ℕ) (low : seatsLeast ≤ n) (high : n ≤ seatsMost) {b : Bench} (run : Reached n trail b) (m : Marks) where
+module _ (n : ℕ) (trail : List ℕ) (low : seats_least ≤ n) (high : n ≤ seats_most) {b : Bench} (run : Reached n trail b) (m : Marks) where
   -- first faults are never forgotten
-  remembered : {x f : ℕ} → FirstFault b.ring x f → FirstFault (benchAfter m b).ring x f
+  remembered : {x f : ℕ} → FirstFault b.ring x f → FirstFault (bench_after m b).ring x f
   remembered {x} {f} y =
-      let is = state-after b.ring m.send m.receive (along n trail low high run).empty in
-      from-faulty (benchAfter m b).ring
-      (subst (λ (s : State). Faulty s x f) (sym is) (stays-faulty (markedOf b.ring m.send m.receive) (to-faulty b.ring y)))
+      let is = state_after b.ring m.send m.receive (along n trail low high run).empty in
+      from-faulty (bench_after m b).ring
+      (subst (λ (s : State). Faulty s x f) (sym is) (stays-faulty (marked_of b.ring m.send m.receive) (to_faulty b.ring y)))
 
-  held : (t : ℕ) → TermsHold (benchAfter m b).ring t → TermsHold b.ring t
+  held : (t : ℕ) → TermsHold (bench_after m b).ring t → TermsHold b.ring t
   held t w = record {
     apart = record { spaced = λ fx fy. w.apart.spaced (remembered fx) (remembered fy) };
     sound = record {
@@ -60,10 +60,10 @@ module _ (n : ℕ) (trail : List ℕ) (low : seatsLeast ≤ n) (high : n ≤ sea
   }
 
   -- a verdict `within` after a step was one before it
-  pub within-before : toldOn m b ≡ done → verdictFound (stepOn m b).ring ≡ within → verdictFound b.ring ≡ within
+  pub within-before : told_on m b ≡ done → verdict_found (step_on m b).ring ≡ within → verdict_found b.ring ≡ within
   within-before e h =
-      let v = (reached-stands n trail low high run).valid in
-      let i : verdictFound (benchAfter m b).ring ≡ within = ap (λ (c : Bench). verdictFound c.ring) (sym (step_after m b e)) ∙ h in
+      let v = (reached_stands n trail low high run).valid in
+      let i : verdict_found (bench_after m b).ring ≡ within = ap (λ (c : Bench). verdict_found c.ring) (sym (step_after m b e)) ∙ h in
       (decides b.ring).kept-within
-      (valid-ring b.ring roomMost (valid-wider b.ring (omega arith) v))
-      (λ t l. held t ((decides (benchAfter m b).ring).within-kept i t (omega arith)))
+      (valid-ring b.ring room_most (valid_wider b.ring (omega arith) v))
+      (λ t l. held t ((decides (bench_after m b).ring).within-kept i t (omega arith)))

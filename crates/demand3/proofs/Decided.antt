@@ -6,12 +6,12 @@ use Prim.Native.Nat.{ℕ, ◌<◌}
 use native.Mathlib.Omega.{arith}
 use lib.Dec.{ltb}
 use borrow.Author.Tests.{lt-ltb, le-ltb, ltb-true, ltb-false, not-false}
-use Rattle.limits.specs.Limits.{roomMost}
-use Rattle.lists.specs.Counted.{firstBelow}
+use Rattle.limits.specs.Limits.{room_most}
+use Rattle.lists.specs.Counted.{first_below}
 use Rattle.lists.proofs.Tests.{both, first-none, first-is, first_passes, first-before}
 use Rattle.ring.specs.Ring.{is_ring}
-use Rattle.terms.specs.Terms.{termsHold, firstFailing}
-use Rattle.ring.specs.Refusals.{Finding, within, outside, unfit, verdictFound}
+use Rattle.terms.specs.Terms.{terms_hold, first_failing}
+use Rattle.ring.specs.Refusals.{Finding, within, outside, unfit, verdict_found}
 use Rattle.ring.specs.declared.Ring.{Ring}
 use Rattle.demand3.specs.Faults.{TermsHold}
 use Rattle.demand3.specs.Verdict.{TermsKept, FirstFailing, Decides}
@@ -22,64 +22,64 @@ use Rattle.demand3.proofs.Tested.{hold-terms, terms-hold}
 abbrev judged : Bool → Bool → ℕ → Finding
 judged ring failing T = cond ring (cond failing (outside T) within) (unfit 10 0)
 
-if-within : (a b : Bool) (T : ℕ) → judged a b T ≡ within → (a ≡ true) × (b ≡ false)
-if-within true true T e = (refl, cc)
-if-within true false T e = (refl, refl)
-if-within false b T e = (cc, cc)
+if_within : (a b : Bool) (T : ℕ) → judged a b T ≡ within → (a ≡ true) × (b ≡ false)
+if_within true true T e = (refl, cc)
+if_within true false T e = (refl, refl)
+if_within false b T e = (cc, cc)
 
-if-outside : (a b : Bool) (T U : ℕ) → judged a b T ≡ outside U → (b ≡ true) × (T ≡ U)
-if-outside true true T U e = (refl, cc)
-if-outside true false T U e = (cc, cc)
-if-outside false b T U e = (cc, cc)
+if_outside : (a b : Bool) (T U : ℕ) → judged a b T ≡ outside U → (b ≡ true) × (T ≡ U)
+if_outside true true T U e = (refl, cc)
+if_outside true false T U e = (cc, cc)
+if_outside false b T U e = (cc, cc)
 
 module _ (r : Ring) where
   abbrev fails : ℕ → Bool
-  fails t = not (termsHold r.n r.faults t)
+  fails t = not (terms_hold r.n r.faults t)
 
   abbrev first : ℕ
-  first = firstBelow r.time fails
+  first = first_below r.time fails
 
-  verdict-is : verdictFound r ≡ judged (is_ring r roomMost) (ltb first r.time) first
-  unfolding verdictFound firstFailing
+  verdict-is : verdict_found r ≡ judged (is_ring r room_most) (ltb first r.time) first
+  unfolding verdict_found first_failing
   verdict-is = refl
 
   holds-before : (t : ℕ) → t < first → TermsHold r t
   holds-before t l = hold-terms r t (not-false _ (first-before fails r.time t l))
 
-  no-fault : (t : ℕ) → TermsHold r t → fails t ≡ false
-  no-fault t w = ap not (terms-hold r t w)
+  no_fault : (t : ℕ) → TermsHold r t → fails t ≡ false
+  no_fault t w = ap not (terms-hold r t w)
 
   faults : (t : ℕ) → (TermsHold r t → ⊥) → fails t ≡ true
-  faults t no-terms = ⊎_elim (λ e. absurd (no-terms (hold-terms r t e))) (λ e. ap not e) (both (termsHold r.n r.faults t))
+  faults t no-terms = ⊎_elim (λ e. absurd (no-terms (hold-terms r t e))) (λ e. ap not e) (both (terms_hold r.n r.faults t))
 
-  pub is-ring : verdictFound r ≡ within → is_ring r roomMost ≡ true
-  is-ring e = (if-within (is_ring r roomMost) (ltb first r.time) first (sym verdict-is ∙ e)).0
+  pub is-ring : verdict_found r ≡ within → is_ring r room_most ≡ true
+  is-ring e = (if_within (is_ring r room_most) (ltb first r.time) first (sym verdict-is ∙ e)).0
 
-  within-kept : verdictFound r ≡ within → TermsKept r
+  within-kept : verdict_found r ≡ within → TermsKept r
   within-kept e t l =
-      let b = (if-within (is_ring r roomMost) (ltb first r.time) first (sym verdict-is ∙ e)).1 in
+      let b = (if_within (is_ring r room_most) (ltb first r.time) first (sym verdict-is ∙ e)).1 in
       holds-before t (omega (arith, ltb-false first r.time b))
 
-  kept-within : is_ring r roomMost ≡ true → TermsKept r → verdictFound r ≡ within
+  kept-within : is_ring r room_most ≡ true → TermsKept r → verdict_found r ≡ within
   kept-within a w =
-      let f = first-none fails r.time (λ t l. no-fault t (w t l)) in
+      let f = first-none fails r.time (λ t l. no_fault t (w t l)) in
       verdict-is ∙ rw (a, le-ltb first r.time (omega arith))
 
-  outside-failing : (T : ℕ) → verdictFound r ≡ outside T → FirstFailing r T
+  outside-failing : (T : ℕ) → verdict_found r ≡ outside T → FirstFailing r T
   outside-failing T e =
-      let k = if-outside (is_ring r roomMost) (ltb first r.time) first T (sym verdict-is ∙ e) in
+      let k = if_outside (is_ring r room_most) (ltb first r.time) first T (sym verdict-is ∙ e) in
       let l : first < r.time = ltb-true first r.time k.0 in
       record {
         taken = omega (arith, k.1);
-        fails = λ w. false≢true (sym (no-fault T w) ∙ ap fails (sym k.1) ∙ first_passes fails r.time l);
+        fails = λ w. false≢true (sym (no_fault T w) ∙ ap fails (sym k.1) ∙ first_passes fails r.time l);
         before = λ t h. holds-before t (omega (arith, k.1));
       }
 
-  failing-outside : is_ring r roomMost ≡ true → (T : ℕ) → FirstFailing r T → verdictFound r ≡ outside T
+  failing-outside : is_ring r room_most ≡ true → (T : ℕ) → FirstFailing r T → verdict_found r ≡ outside T
   failing-outside a T w =
-      let f : first ≡ T = first-is fails r.time T w.taken (faults T w.fails) (λ t l. no-fault t (w.before t l)) in
+      let f : first ≡ T = first-is fails r.time T w.taken (faults T w.fails) (λ t l. no_fault t (w.before t l)) in
       let l = w.taken in
-      verdict-is ∙ ap (judged (is_ring r roomMost) (ltb first r.time)) f ∙ rw (a, lt-ltb first r.time (omega arith))
+      verdict-is ∙ ap (judged (is_ring r room_most) (ltb first r.time)) f ∙ rw (a, lt-ltb first r.time (omega arith))
 
   pub decides : Decides r
   decides = record { within-kept = within-kept; kept-within = kept-within; outside-failing = outside-failing; failing-outside = failing-outside }

@@ -7,11 +7,11 @@ use mathlib.Core.List.{List, [], ◌∷◌}
 use mathlib.Core.Logic.{⊎_elim}
 use mathlib.Core.Path.{◌≡◌, sym, ap, ◌∙◌}
 use Prim.Native.Nat.{ℕ, ◌+◌, ◌≤◌}
-use Rattle.limits.specs.Limits.{seatsLeast, seatsMost}
-use Rattle.ring.specs.Refusals.{verdictFound, within}
-use Rattle.steps.specs.Run.{Marks, Bench, toldOn, stepOn, freshBench, Reached, start, runOn}
+use Rattle.limits.specs.Limits.{seats_least, seats_most}
+use Rattle.ring.specs.Refusals.{verdict_found, within}
+use Rattle.steps.specs.Run.{Marks, Bench, told_on, step_on, fresh_bench, Reached, start, run_on}
 use Rattle.limits.proofs.Refusals.{told_is}
-use Rattle.steps.proofs.Reached.{reached-stands, step-refused, run-append, run-reached}
+use Rattle.steps.proofs.Reached.{reached_stands, step-refused, run-append, run_reached}
 use Rattle.demand3.specs.Faults.{Apart}
 use Rattle.demand3.specs.Demand.{Agreement, Demand3, HeldBefore}
 use Rattle.demand3.proofs.Agrees.{agrees}
@@ -19,49 +19,49 @@ use Rattle.demand3.proofs.View.{state_of}
 use Rattle.demand3.proofs.Along.{along}
 use Rattle.demand3.proofs.Decided.{decides}
 use Rattle.demand3.proofs.Read.{agreement}
-use Rattle.demand3.proofs.Before.{apart_of, terms-of, within-before}
+use Rattle.demand3.proofs.Before.{apart_of, terms_of, within-before}
 
-step-reached : {n : ℕ} {trail : List ℕ} {b : Bench} → Reached n trail b → (m : Marks) → Reached n trail (stepOn m b)
-unfolding runOn
-step-reached run m = run-reached (m ∷ []) run
+step_reached : {n : ℕ} {trail : List ℕ} {b : Bench} → Reached n trail b → (m : Marks) → Reached n trail (step_on m b)
+unfolding run_on
+step_reached run m = run_reached (m ∷ []) run
 
-module _ (n : ℕ) (trail : List ℕ) (low : seatsLeast ≤ n) (high : n ≤ seatsMost) where
+module _ (n : ℕ) (trail : List ℕ) (low : seats_least ≤ n) (high : n ≤ seats_most) where
   -- a verdict `within` after a step, taken or refused, was one before it
-  within_step : {b : Bench} → Reached n trail b → (m : Marks) → verdictFound (stepOn m b).ring ≡ within → verdictFound b.ring ≡ within
+  within_step : {b : Bench} → Reached n trail b → (m : Marks) → verdict_found (step_on m b).ring ≡ within → verdict_found b.ring ≡ within
   within_step {b} run m h =
       ⊎_elim
       (λ e. within-before n trail low high run m e h)
-      (λ x. ap (λ (c : Bench). verdictFound c.ring) (sym (step-refused m b x.2)) ∙ h)
-      (told_is (toldOn m b))
+      (λ x. ap (λ (c : Bench). verdict_found c.ring) (sym (step-refused m b x.2)) ∙ h)
+      (told_is (told_on m b))
 
-  within-since : {b : Bench} → Reached n trail b → (steps : List Marks) → verdictFound (runOn steps b).ring ≡ within
-      → verdictFound b.ring ≡ within
-  unfolding runOn
+  within-since : {b : Bench} → Reached n trail b → (steps : List Marks) → verdict_found (run_on steps b).ring ≡ within
+      → verdict_found b.ring ≡ within
+  unfolding run_on
   within-since run [] h = h
-  within-since run (m ∷ more) h = within_step run m (within-since (step-reached run m) more h)
+  within-since run (m ∷ more) h = within_step run m (within-since (step_reached run m) more h)
 
   -- first faults n + 1 slots apart are enough
-  pub agreement-of : {b : Bench} → Reached n trail b → Apart (b.ring.n + 1) b.ring b.ring.time → Agreement b.ring
-  agreement-of {b} run w =
-      let v = (reached-stands n trail low high run).valid in
-      let t = terms-of b.ring _ v w in
+  pub agreement_of : {b : Bench} → Reached n trail b → Apart (b.ring.n + 1) b.ring b.ring.time → Agreement b.ring
+  agreement_of {b} run w =
+      let v = (reached_stands n trail low high run).valid in
+      let t = terms_of b.ring _ v w in
       agreement b.ring _ v (agrees (state_of b.ring) ((along n trail low high run).kept t) t)
 
-  pub agreement-within : {b : Bench} → Reached n trail b → verdictFound b.ring ≡ within → Agreement b.ring
+  pub agreement-within : {b : Bench} → Reached n trail b → verdict_found b.ring ≡ within → Agreement b.ring
   agreement-within {b} run h =
-      let v = (reached-stands n trail low high run).valid in
-      agreement-of run (apart_of b.ring _ v ((decides b.ring).within-kept h))
+      let v = (reached_stands n trail low high run).valid in
+      agreement_of run (apart_of b.ring _ v ((decides b.ring).within-kept h))
 
 pub held-before : HeldBefore
 held-before n trail steps more w =
-    let whole = ap (λ (b : Bench). verdictFound b.ring) (sym (run-append steps more (freshBench n trail))) ∙ w.terms in
+    let whole = ap (λ (b : Bench). verdict_found b.ring) (sym (run-append steps more (fresh_bench n trail))) ∙ w.terms in
     record {
       least = w.least;
       most = w.most;
-      terms = within-since n trail w.least w.most (run-reached steps start) more whole;
+      terms = within-since n trail w.least w.most (run_reached steps start) more whole;
     }
 
 pub demand3 : Demand3
 demand3 n trail steps more whole =
     let w = held-before n trail steps more whole in
-    agreement-within n trail w.least w.most (run-reached steps start) w.terms
+    agreement-within n trail w.least w.most (run_reached steps start) w.terms

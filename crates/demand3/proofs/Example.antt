@@ -4,24 +4,24 @@ use mathlib.Core.List.{[]}
 use Prim.Native.Nat.{ℕ, ◌%◌}
 use native.Mathlib.Omega.{arith}
 use Rattle.demand3.specs.Demand.{RunWithin}
-use Rattle.demand3.specs.Runs.{fiveApart, beforeOwn, steps_of, seatsIn, trailOfRun}
+use Rattle.demand3.specs.Runs.{five_apart, before_own, steps_of, seats_in, trail_of_run}
 use Rattle.demand3.specs.Example.{Example}
 use Rattle.demand3.proofs.Demand.{demand3}
-use Rattle.demand3.proofs.Runs.{is-n, is-time, is-sound, is-fault, is-in, is_within}
+use Rattle.demand3.proofs.Runs.{is-n, is-time, is-sound, is-fault, is_in, is_within}
 
-within : RunWithin (seatsIn fiveApart) trailOfRun (steps_of fiveApart)
-within = is_within fiveApart (omega arith) (omega arith) refl
+within : RunWithin (seats_in five_apart) trail_of_run (steps_of five_apart)
+within = is_within five_apart (omega arith) (omega arith) refl
 
 pub example : Example
 example = record {
   within = within;
-  one-sound = is-sound fiveApart 0 refl refl;
-  other-sound = is-sound fiveApart 2 refl refl;
-  first-fault = is-fault fiveApart 3 0 refl refl;
-  second-fault = is-fault fiveApart 1 5 refl refl;
-  own-slot = ap (λ (k : ℕ). 5 % k) (is-n fiveApart);
-  over = omega (arith, is-n fiveApart, is-time fiveApart);
-  agreement = demand3 (seatsIn fiveApart) trailOfRun (steps_of fiveApart) [] within;
-  earlier = is_within beforeOwn (omega arith) (omega arith) refl;
-  still-in = is-in beforeOwn 0 3 refl;
+  one-sound = is-sound five_apart 0 refl refl;
+  other-sound = is-sound five_apart 2 refl refl;
+  first-fault = is-fault five_apart 3 0 refl refl;
+  second-fault = is-fault five_apart 1 5 refl refl;
+  own-slot = ap (λ (k : ℕ). 5 % k) (is-n five_apart);
+  over = omega (arith, is-n five_apart, is-time five_apart);
+  agreement = demand3 (seats_in five_apart) trail_of_run (steps_of five_apart) [] within;
+  earlier = is_within before_own (omega arith) (omega arith) refl;
+  still_in = is_in before_own 0 3 refl;
 }

@@ -8,9 +8,9 @@ use lib.Dec.{eqb}
 use borrow.Author.Tests.{eq-eqb}
 use Rattle.lists.proofs.Tests.{both, same?}
 use Rattle.demand3.proofs.Model.{hold, Sound, Faulty}
-use Rattle.demand3.proofs.Seat.{role-blind, Still, still, differ, back-sound}
+use Rattle.demand3.proofs.Seat.{role-blind, Still, still, differ, back_sound}
 use Rattle.demand3.proofs.Invariant.{Holds, Active, Latest, gone, alone, active, Pending, Low, NoneSound, Inv, soon}
-use Rattle.demand3.proofs.Moves.{Move, o, later, slot-seat, back-faulty, keeps-sound, out_step, alone-step, alone-ack, passed-step}
+use Rattle.demand3.proofs.Moves.{Move, o, later, slot-seat, back_faulty, keeps-sound, out_step, alone-step, alone-ack, passed-step}
 use Rattle.demand3.proofs.Moves.{carry, pending-step, after-quiet}
 
 module _ (m : Move) where
@@ -28,12 +28,12 @@ module _ (m : Move) where
 
     holds : (p : ℕ) → Sound (later m) p → Holds (later m) last bit due p
     holds p sp =
-        let was : Sound now p = back-sound given sp in
+        let was : Sound now p = back_sound given sp in
         let z : Still given p = rest p was in
         let h : Holds now last bit due p = inv.holds was in
         record {
-          friends = λ {q} sq. z.set q ∙ h.friends (back-sound given sq);
-          others = λ {x} y. z.set x ∙ h.others (back-faulty m quiet y);
+          friends = λ {q} sq. z.set q ∙ h.friends (back_sound given sq);
+          others = λ {x} y. z.set x ∙ h.others (back_faulty m quiet y);
           says = z.ack ∙ h.says;
           sure = λ k. z.doubt ∙ h.sure k;
         }
@@ -63,7 +63,7 @@ module _ (m : Move) where
           high = w.high;
           next = keeps-sound m quiet w.next;
         })
-    low (inr none) = inr (λ p sp. none p (back-sound given sp))
+    low (inr none) = inr (λ p sp. none p (back_sound given sp))
 
     module _ (x f : ℕ) (fx : Faulty now x f) (el : last ≡ suc f) where
       unseen : Active now f bit due x → (x ≡ o m → ⊥) → set x (o m) ≡ false → Latest (later m) f bit due x
@@ -75,7 +75,7 @@ module _ (m : Move) where
             inside = s.set x ∙ y.inside;
             unseen = λ k. absurd (false≢true (sym e ∙ sym (s.set (o m)) ∙ k));
             opposite = s.ack ∙ y.opposite;
-            full = λ k {u} su ne. s.set u ∙ y.full k (back-sound given su) ne;
+            full = λ k {u} su ne. s.set u ∙ y.full k (back_sound given su) ne;
             past = λ k t lo hi j. y.past k t (omega arith) hi j;
           })
 

@@ -8,7 +8,7 @@ use Prim.Native.Nat.{ℕ, suc, ◌+◌, ◌%◌, ◌≤◌, ◌<◌}
 use native.Mathlib.Omega.{arith}
 use lib.Dec.{eqb, ltb}
 use borrow.Author.Tests.{ltb-true, ltb-false}
-use Rattle.limits.specs.Limits.{seatsLeast}
+use Rattle.limits.specs.Limits.{seats_least}
 use Rattle.lists.proofs.Tests.{both, same?}
 use Rattle.demand3.proofs.Slots.{OwnSlot, own-slot}
 use Rattle.demand3.proofs.Model.{State, Sound, Faulty}
@@ -80,7 +80,7 @@ module _ (s : State) where
     pub owner : k % n ≡ x
 
   pub record Inv (last : ℕ) (bit due : Bool) : Type 0 where
-    pub size : seatsLeast ≤ n
+    pub size : seats_least ≤ n
     pub since : last ≤ time
     pub most : {x f : ℕ} → Faulty s x f → f < last
     pub top : 0 < last → Top last

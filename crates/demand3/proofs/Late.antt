@@ -8,17 +8,17 @@ use lib.Dec.{leb, ltb}
 use lib.ListN.{get_or}
 use borrow.Author.Tests.{leb-true, leb-false}
 use Rattle.lists.proofs.Tests.{both}
-use Rattle.seats.specs.Sets.{hasSeat}
-use Rattle.ring.specs.Ring.{noSeat}
-use Rattle.demand3.specs.Runs.{Run, beforeOwn, afterOwn, beforeOut, afterOut, stated}
+use Rattle.seats.specs.Sets.{has_seat}
+use Rattle.ring.specs.Ring.{no_seat}
+use Rattle.demand3.specs.Runs.{Run, before_own, after_own, before_out, after_out, stated}
 use Rattle.demand3.specs.Late.{RemovedInOwnSlot, LateAtMost, After, Latest}
 use Rattle.demand3.proofs.Slots.{own-slot, once}
-use Rattle.demand3.proofs.Runs.{is-time, is-sound, is-fault, is-in, is_within}
+use Rattle.demand3.proofs.Runs.{is-time, is-sound, is-fault, is_in, is_within}
 
-pub removed-in-own-slot : RemovedInOwnSlot
-removed-in-own-slot r a p x t k sp fx low high own =
+pub removed_in_own-slot : RemovedInOwnSlot
+removed_in_own-slot r a p x t k sp fx low high own =
     ⊎_elim
-    (λ e. let h = leb-true r.time k e in a.stays-till sp fx (ahead h) ∙ sym e)
+    (λ e. let h = leb-true r.time k e in a.stays_till sp fx (ahead h) ∙ sym e)
     (λ e. let h = leb-false r.time k e in a.left_by sp fx k low h own ∙ sym e)
     (both (leb r.time k))
   where
@@ -33,23 +33,23 @@ late-at-most r a p x t sp fx h =
 
 -- a moment of a run, by what is stated of it
 moment : (a : Run) (p x t k : ℕ) (has : Bool) → ltb p (stated a).n ≡ true → ltb x (stated a).n ≡ true
-    → (get_or (stated a).seats x noSeat).fault ≡ t + 1 → (stated a).time ≡ t + k → hasSeat (get_or (stated a).seats p noSeat).set x ≡ has
+    → (get_or (stated a).seats x no_seat).fault ≡ t + 1 → (stated a).time ≡ t + k → has_seat (get_or (stated a).seats p no_seat).set x ≡ has
     → After a p x t k has
-moment a p x t k has hp hx f e h = record { fault = is-fault a x t hx f; time = is-time a ∙ e; holds = is-in a p x hp ∙ h }
+moment a p x t k has hp hx f e h = record { fault = is-fault a x t hx f; time = is-time a ∙ e; holds = is_in a p x hp ∙ h }
 
 pub latest : Latest
 latest = record {
-  sound = is-sound afterOwn 0 refl refl;
-  from-theirs = record {
+  sound = is-sound after_own 0 refl refl;
+  from_theirs = record {
     longer = refl;
-    within = is_within afterOwn (omega arith) (omega arith) refl;
-    before = moment beforeOwn 0 3 0 3 true refl refl refl refl refl;
-    after = moment afterOwn 0 3 0 4 false refl refl refl refl refl;
+    within = is_within after_own (omega arith) (omega arith) refl;
+    before = moment before_own 0 3 0 3 true refl refl refl refl refl;
+    after = moment after_own 0 3 0 4 false refl refl refl refl refl;
   };
-  from-its-own = record {
+  from_its_own = record {
     longer = refl;
-    within = is_within afterOut (omega arith) (omega arith) refl;
-    before = moment beforeOut 1 1 0 2 true refl refl refl refl refl;
-    after = moment afterOut 1 1 0 3 false refl refl refl refl refl;
+    within = is_within after_out (omega arith) (omega arith) refl;
+    before = moment before_out 1 1 0 2 true refl refl refl refl refl;
+    after = moment after_out 1 1 0 3 false refl refl refl refl refl;
   };
 }

@@ -9,7 +9,7 @@ use lib.Dec.{eqb}
 use borrow.Author.Tests.{eq-eqb, ne_eqb}
 use Rattle.lists.proofs.Tests.{both, same?}
 use Rattle.demand3.proofs.Model.{acts, role, hold, Sound, Faulty}
-use Rattle.demand3.proofs.Seat.{role-act, act-other, act-owner, differ, back-sound, DropsOwner, deaf-drops}
+use Rattle.demand3.proofs.Seat.{role-act, act-other, act-owner, differ, back_sound, DropsOwner, deaf_drops}
 use Rattle.demand3.proofs.Invariant.{Holds, Active, active, Pending, Inv}
 use Rattle.demand3.proofs.Moves.{Move, o, later, sees, Hears, hears, role-sound}
 use Rattle.demand3.proofs.Moves.{starts, calm, up, unmarked, still-sound, was-faulty, first-kin, after_first}
@@ -32,14 +32,14 @@ module _ (m : Move) where
 
     holds : (p : ℕ) → Sound (later m) p → Holds (later m) (suc time) true true p
     holds p sp = record {
-      friends = λ {q} sq. h.same q ∙ sees m was (back-sound given sq);
+      friends = λ {q} sq. h.same q ∙ sees m was (back_sound given sq);
       others = λ {x} y. ⊎_elim (other y) (older y) (same? x c);
       says = h.acks;
       sure = λ k. h.sure (up m c sc yc);
     }
       where
         was : Sound now p
-        was = back-sound given sp
+        was = back_sound given sp
 
         heard : (p ≡ o m → ⊥) → receive p ≡ false
         heard i =
@@ -60,7 +60,7 @@ module _ (m : Move) where
             h.same x ∙ (inv.holds was).others z ∙ cc (calm m c sc yc, ne_eqb (suc f) (suc time) (λ k. omega (arith, inv.since, inv.most z)))
 
     w : DropsOwner given c
-    w = deaf-drops given c (cc (es, sees m so so, mc)) ((inv.holds sc).says ∙ up m c sc yc)
+    w = deaf_drops given c (cc (es, sees m so so, mc)) ((inv.holds sc).says ∙ up m c sc yc)
 
     unseen : (u : ℕ) → set' c u ≡ true → u ≡ o m → ⊥
     unseen u e i = false≢true (sym (act-owner given c rc w.drop u i) ∙ e)
@@ -70,7 +70,7 @@ module _ (m : Move) where
       inside = act-other given c rc w.stays c nc ∙ sees m sc sc;
       kin = λ u hu e ne. first-kin m c sc yc u hu (sym (act-other given c rc w.stays u (unseen u e)) ∙ e) ne (unseen u e);
       opposite = cc (rc, w.low);
-      full = λ h {u} su ne. act-other given c rc w.stays u ne ∙ sees m sc (back-sound given su);
+      full = λ h {u} su ne. act-other given c rc w.stays u ne ∙ sees m sc (back_sound given su);
       past = λ h. absurd (true≢false h);
     }
 

@@ -6,11 +6,11 @@ use mathlib.Core.Logic.{◌⊎◌}
 use mathlib.Core.Path.{◌≡◌}
 use Prim.Native.Nat.{ℕ, suc, ◌+◌, ◌%◌, ◌≤◌, ◌<◌}
 use lib.Dec.{eqb}
-use Rattle.limits.specs.Limits.{seatsLeast}
+use Rattle.limits.specs.Limits.{seats_least}
 use Rattle.turn.specs.Table.{table}
-use Rattle.turn.specs.Turn.{faultAfter}
+use Rattle.turn.specs.Turn.{fault_after}
 use Rattle.turn.specs.declared.table.Row.{Row}
-use Rattle.turn.proofs.GoneLaws.{takesItself, takesOwner}
+use Rattle.turn.proofs.GoneLaws.{takes_itself, takes_owner}
 
 -- `set p q`: q is in p's set. `fault p`: 0, or one more than the time of p's first fault
 pub record State : Type 0 where
@@ -23,7 +23,7 @@ pub record State : Type 0 where
 
 -- every seat in every set, every acknowledgement true, every doubt false, no faults
 pub record Fresh (s : State) : Type 0 where
-  pub size : seatsLeast ≤ s.n
+  pub size : seats_least ≤ s.n
   pub full : {p q : ℕ} → p < s.n → q < s.n → s.set p q ≡ true
   pub says : {p : ℕ} → p < s.n → s.ack p ≡ true
   pub sure : {p : ℕ} → p < s.n → s.doubt p ≡ false
@@ -38,17 +38,17 @@ pub data Role : Type 0 where
   rests : Role
 
 -- is it the owner; is it in its own set; is the owner in its set
-abbrev pub roleOf : Bool → Bool → Bool → Role
-roleOf true true expects = owns
-roleOf true false expects = rests
-roleOf false true true = acts
-roleOf false true false = rests
-roleOf false false expects = rests
+abbrev pub role_of : Bool → Bool → Bool → Role
+role_of true true expects = owns
+role_of true false expects = rests
+role_of false true true = acts
+role_of false true false = rests
+role_of false false expects = rests
 
-abbrev pub byRole : {A : Type 0} → Role → A → A → A → A
-byRole owns x y z = x
-byRole acts x y z = y
-byRole rests x y z = z
+abbrev pub by_role : {A : Type 0} → Role → A → A → A → A
+by_role owns x y z = x
+by_role acts x y z = y
+by_role rests x y z = z
 
 -- a state with the marks of the step that it takes
 pub record Marked : Type 0 where
@@ -64,7 +64,7 @@ module _ (t : Marked) where
   owner = time % n
 
   abbrev pub role : ℕ → Role
-  role p = roleOf (eqb p owner) (set p p) (set p owner)
+  role p = role_of (eqb p owner) (set p p) (set p owner)
 
   -- the owner speaks if it is in its own set and has no send mark
   abbrev pub speaks : Bool
@@ -78,17 +78,17 @@ module _ (t : Marked) where
   row p = table (arrived p) (ack owner) (ack p) (doubt p)
 
   abbrev pub leaves : ℕ → Bool
-  leaves p = takesItself (row p).removed
+  leaves p = takes_itself (row p).removed
 
   abbrev pub drops : ℕ → Bool
-  drops p = takesOwner (row p).removed
+  drops p = takes_owner (row p).removed
 
   abbrev pub learns : ℕ → Bool
   learns p = (row p).ack
 
   -- a mark takes hold on the seat
   abbrev pub hold : ℕ → Bool
-  hold p = byRole (role p) send (speaks && receive p) false
+  hold p = by_role (role p) send (speaks && receive p) false
 
   -- the set of a seat that decides
   abbrev pub left : ℕ → ℕ → Bool
@@ -98,10 +98,10 @@ module _ (t : Marked) where
   step = record {
     n = n;
     time = suc time;
-    set = λ p q. byRole (role p) (set p q) (left p q) (set p q);
-    ack = λ p. byRole (role p) true (learns p) (ack p);
-    doubt = λ p. byRole (role p) (not (ack p)) false (doubt p);
-    fault = λ p. faultAfter (hold p) (suc time) (fault p);
+    set = λ p q. by_role (role p) (set p q) (left p q) (set p q);
+    ack = λ p. by_role (role p) true (learns p) (ack p);
+    doubt = λ p. by_role (role p) (not (ack p)) false (doubt p);
+    fault = λ p. fault_after (hold p) (suc time) (fault p);
   }
 
 -- ---- the fault terms, and what is to hold
@@ -126,8 +126,8 @@ module _ (s : State) where
   pub record Agrees : Type 0 where
     pub one_set : {p q : ℕ} → Sound p → Sound q → (r : ℕ) → r < n → set p r ≡ set q r
     pub one-ack : {p q : ℕ} → Sound p → Sound q → ack p ≡ ack q
-    pub sound-in : {p q : ℕ} → Sound p → Sound q → set p q ≡ true
+    pub sound_in : {p q : ℕ} → Sound p → Sound q → set p q ≡ true
     pub one-faulty : {p x y f g : ℕ} → Sound p → Faulty x f → Faulty y g → set p x ≡ true → set p y ≡ true → x ≡ y
     pub removed-by : {p x f : ℕ} → Sound p → Faulty x f → (k : ℕ) → f ≤ k → k < time → k % n ≡ x → set p x ≡ false
-    pub kept-till : {p x f : ℕ} → Sound p → Faulty x f → ((k : ℕ) → f ≤ k → k < time → k % n ≡ x → ⊥) → set p x ≡ true
+    pub kept_till : {p x f : ℕ} → Sound p → Faulty x f → ((k : ℕ) → f ≤ k → k < time → k % n ≡ x → ⊥) → set p x ≡ true
     pub ended_by : {x f : ℕ} → Faulty x f → f + n ≤ time → (set x x ≡ false) ⊎ ((q : ℕ) → q < n → set x q ≡ eqb q x)

@@ -216,8 +216,8 @@ module _ (m : Move) where
     pub keeps-sound : {p : ℕ} → Sound now p → Sound later p
     keeps-sound {p} x = unheld given (quiet p x) x
 
-    pub back-faulty : {x f : ℕ} → Faulty later x f → Faulty now x f
-    back-faulty y = faulty-before y keeps-sound
+    pub back_faulty : {x f : ℕ} → Faulty later x f → Faulty now x f
+    back_faulty y = faulty-before y keeps-sound
 
     -- what an active seat x goes on by: only the owner may leave its set, and its bit is still not that of
     -- the sound seats
@@ -259,12 +259,12 @@ module _ (m : Move) where
     after-quiet w late over = record {
       size = inv.size;
       since = omega (arith, inv.since);
-      most = λ y. inv.most (back-faulty y);
+      most = λ y. inv.most (back_faulty y);
       top = λ pos. let k = inv.top pos in record { f = k.f; x = k.x; is = k.is; late = stays-faulty given k.late };
       holds = λ {p} x. w.holds p x;
-      old = λ y h. ended-step (inv.old (back-faulty y) h);
-      late = λ {x} {f} y e. late x f (back-faulty y) e (inv.late (back-faulty y) e);
+      old = λ y h. ended-step (inv.old (back_faulty y) h);
+      late = λ {x} {f} y e. late x f (back_faulty y) e (inv.late (back_faulty y) e);
       pend = w.pend;
-      over = λ h {x} {f} y e. over x f (back-faulty y) e h;
+      over = λ h {x} {f} y e. over x f (back_faulty y) e h;
       low = w.low;
     }

@@ -9,10 +9,10 @@ use borrow.Author.Tests.{eq-eqb, ne_eqb}
 use Rattle.lists.proofs.Tests.{same?}
 use Rattle.demand3.proofs.Slots.{once}
 use Rattle.demand3.proofs.Model.{acts, role, speaks, hold, Sound, Faulty}
-use Rattle.demand3.proofs.Seat.{role-own, role-act, own-set, act-other, act-owner, stays-faulty, differ, back-sound}
-use Rattle.demand3.proofs.Seat.{DropsOwner, deaf-drops, false-drops}
+use Rattle.demand3.proofs.Seat.{role-own, role-act, own-set, act-other, act-owner, stays-faulty, differ, back_sound}
+use Rattle.demand3.proofs.Seat.{DropsOwner, deaf_drops, false_drops}
 use Rattle.demand3.proofs.Invariant.{Holds, Latest, gone, alone, active, Pending, Low, Inv, soon}
-use Rattle.demand3.proofs.Moves.{Move, o, later, sees, back-faulty, keeps-sound, out_step, alone-step, passed-now, early, carry, after-quiet}
+use Rattle.demand3.proofs.Moves.{Move, o, later, sees, back_faulty, keeps-sound, out_step, alone-step, passed-now, early, carry, after-quiet}
 
 module _ (m : Move) where
   open m use {given, last, bit, due, inv, terms}
@@ -55,8 +55,8 @@ module _ (m : Move) where
       sure = (inv.holds sp).sure (cc ep)
 
       falls : (speaks given ≡ false) ⊎ (ack (o m) ≡ false) → DropsOwner given p
-      falls (inl e) = deaf-drops given p (cc e) high
-      falls (inr e) = false-drops given p e high sure
+      falls (inl e) = deaf_drops given p (cc e) high
+      falls (inr e) = false_drops given p e high sure
 
       r : role given p ≡ acts
       r =
@@ -78,10 +78,10 @@ module _ (m : Move) where
 
     holds : (p : ℕ) → Sound (later m) p → Holds (later m) last false false p
     holds p sp =
-        let was : Sound now p = back-sound given sp in
+        let was : Sound now p = back_sound given sp in
         record {
-          friends = λ sq. friends p was (back-sound given sq);
-          others = λ y. others p was (back-faulty m quiet y);
+          friends = λ sq. friends p was (back_sound given sq);
+          others = λ y. others p was (back_faulty m quiet y);
           says = cc (r p was, (falls p was mute).low);
           sure = λ h. cc (r p was);
         }
@@ -95,7 +95,7 @@ module _ (m : Move) where
       inside = same (o m) ∙ y.inside;
       unseen = λ k. refl;
       opposite = cc (role-own given (o m) refl y.inside);
-      full = λ k {u} su ne. same u ∙ y.full (cc ep) (back-sound given su) ne;
+      full = λ k {u} su ne. same u ∙ y.full (cc ep) (back_sound given su) ne;
       past = λ k t lo hi i. once n time t lo (omega (arith, inv.since)) i;
     })
       where

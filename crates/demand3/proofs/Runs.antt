@@ -7,71 +7,71 @@ use native.Mathlib.Omega.{arith}
 use lib.Dec.{ltb}
 use lib.ListN.{get_or}
 use borrow.Author.Tests.{ltb-true}
-use Rattle.limits.specs.Limits.{seatsLeast, seatsMost}
-use Rattle.lists.proofs.Counted.{getD-tab}
-use Rattle.seats.specs.Sets.{hasSeat}
+use Rattle.limits.specs.Limits.{seats_least, seats_most}
+use Rattle.lists.proofs.Counted.{get_or-tab}
+use Rattle.seats.specs.Sets.{has_seat}
 use Rattle.turn.specs.Turn.{sound}
-use Rattle.ring.specs.Ring.{seatOf, noSeat, zeroRing, freshRing, everySeatStands, is_ring}
+use Rattle.ring.specs.Ring.{seat_of, no_seat, zero_ring, fresh_ring, every_seat_stands, is_ring}
 use Rattle.turn.specs.Turn.{turn_of}
-use Rattle.terms.specs.Terms.{termsHold, firstFailing}
-use Rattle.ring.specs.Refusals.{stepTold, verdictFound, within}
-use Rattle.ring.specs.Promise.{ringOf, trailOf}
-use Rattle.steps.specs.Run.{runOn}
+use Rattle.terms.specs.Terms.{terms_hold, first_failing}
+use Rattle.ring.specs.Refusals.{step_told, verdict_found, within}
+use Rattle.ring.specs.Promise.{ring_of, trail_of}
+use Rattle.steps.specs.Run.{run_on}
 use Rattle.turn.specs.declared.Seat.{Seat}
 use Rattle.demand3.specs.Faults.{SoundSeat, FirstFault, Apart}
 use Rattle.demand3.specs.Demand.{RunWithin}
-use Rattle.demand3.specs.Runs.{Run, fiveApart, fourApart, threeApart, alone, beforeOwn, afterOwn, beforeOut, afterOut}
-use Rattle.demand3.specs.Runs.{seatsIn, steps_of, trailOfRun, lastRing, Finish, finishOf, stated}
+use Rattle.demand3.specs.Runs.{Run, five_apart, four_apart, three_apart, alone, before_own, after_own, before_out, after_out}
+use Rattle.demand3.specs.Runs.{seats_in, steps_of, trail_of_run, last_ring, Finish, finish_of, stated}
 use Rattle.demand3.proofs.Tested.{all_apart}
 
-pub as-stated : (x : Run) → finishOf x ≡ stated x
-unfolding finishOf runOn ringOf trailOf stepTold verdictFound firstFailing termsHold turn_of is_ring everySeatStands freshRing zeroRing
-as-stated fiveApart = refl
-as-stated fourApart = refl
-as-stated threeApart = refl
-as-stated alone = refl
-as-stated beforeOwn = refl
-as-stated afterOwn = refl
-as-stated beforeOut = refl
-as-stated afterOut = refl
+pub as_stated : (x : Run) → finish_of x ≡ stated x
+unfolding finish_of run_on ring_of trail_of step_told verdict_found first_failing terms_hold turn_of is_ring every_seat_stands fresh_ring zero_ring
+as_stated five_apart = refl
+as_stated four_apart = refl
+as_stated three_apart = refl
+as_stated alone = refl
+as_stated before_own = refl
+as_stated after_own = refl
+as_stated before_out = refl
+as_stated after_out = refl
 
 -- ---- what that says of a run's last ring
 
 module _ (x : Run) where
-  pub is-n : (lastRing x).n ≡ (stated x).n
-  unfolding finishOf
-  is-n = ap (λ (f : Finish). f.n) (as-stated x)
+  pub is-n : (last_ring x).n ≡ (stated x).n
+  unfolding finish_of
+  is-n = ap (λ (f : Finish). f.n) (as_stated x)
 
-  pub is-time : (lastRing x).time ≡ (stated x).time
-  unfolding finishOf
-  is-time = ap (λ (f : Finish). f.time) (as-stated x)
+  pub is-time : (last_ring x).time ≡ (stated x).time
+  unfolding finish_of
+  is-time = ap (λ (f : Finish). f.time) (as_stated x)
 
-  pub is_found : verdictFound (lastRing x) ≡ (stated x).verdict
-  unfolding finishOf
-  is_found = ap (λ (f : Finish). f.verdict) (as-stated x)
+  pub is_found : verdict_found (last_ring x) ≡ (stated x).verdict
+  unfolding finish_of
+  is_found = ap (λ (f : Finish). f.verdict) (as_stated x)
 
-  pub is-seat : (p : ℕ) → ltb p (stated x).n ≡ true → seatOf (lastRing x) p ≡ get_or (stated x).seats p noSeat
-  unfolding finishOf
+  pub is-seat : (p : ℕ) → ltb p (stated x).n ≡ true → seat_of (last_ring x) p ≡ get_or (stated x).seats p no_seat
+  unfolding finish_of
   is-seat p l =
       let h = ltb-true p (stated x).n l in
-      sym (getD-tab (lastRing x).n (seatOf (lastRing x)) noSeat p (omega (arith, is-n)))
-      ∙ ap (λ (f : Finish). get_or f.seats p noSeat) (as-stated x)
+      sym (get_or-tab (last_ring x).n (seat_of (last_ring x)) no_seat p (omega (arith, is-n)))
+      ∙ ap (λ (f : Finish). get_or f.seats p no_seat) (as_stated x)
 
-  pub is-sound : (p : ℕ) → ltb p (stated x).n ≡ true → sound (get_or (stated x).seats p noSeat) ≡ true → SoundSeat (lastRing x) p
+  pub is-sound : (p : ℕ) → ltb p (stated x).n ≡ true → sound (get_or (stated x).seats p no_seat) ≡ true → SoundSeat (last_ring x) p
   is-sound p l e = record { seat = let h = ltb-true p (stated x).n l in omega (arith, is-n); never = ap sound (is-seat p l) ∙ e }
 
-  pub is-fault : (p t : ℕ) → ltb p (stated x).n ≡ true → (get_or (stated x).seats p noSeat).fault ≡ t + 1 → FirstFault (lastRing x) p t
+  pub is-fault : (p t : ℕ) → ltb p (stated x).n ≡ true → (get_or (stated x).seats p no_seat).fault ≡ t + 1 → FirstFault (last_ring x) p t
   is-fault p t l e = record { seat = let h = ltb-true p (stated x).n l in omega (arith, is-n); since = ap (λ (s : Seat). s.fault) (is-seat p l) ∙ e }
 
-  pub is-in : (p q : ℕ) → ltb p (stated x).n ≡ true → hasSeat (seatOf (lastRing x) p).set q ≡ hasSeat (get_or (stated x).seats p noSeat).set q
-  is-in p q l = ap (λ (s : Seat). hasSeat s.set q) (is-seat p l)
+  pub is_in : (p q : ℕ) → ltb p (stated x).n ≡ true → has_seat (seat_of (last_ring x) p).set q ≡ has_seat (get_or (stated x).seats p no_seat).set q
+  is_in p q l = ap (λ (s : Seat). has_seat s.set q) (is-seat p l)
 
   -- the first faults are n slots apart
-  pub is-apart : 0 < (stated x).n → (stated x).nApart ≡ true → Apart (lastRing x).n (lastRing x) (lastRing x).time
-  unfolding finishOf
+  pub is-apart : 0 < (stated x).n → (stated x).n_apart ≡ true → Apart (last_ring x).n (last_ring x) (last_ring x).time
+  unfolding finish_of
   is-apart pos e =
-      let h : (lastRing x).n - 1 + 1 ≡ (lastRing x).n = omega (arith, is-n) in
-      rw h at (all_apart (lastRing x) (lastRing x).time ((lastRing x).n - 1) (ap (λ (f : Finish). f.nApart) (as-stated x) ∙ e))
+      let h : (last_ring x).n - 1 + 1 ≡ (last_ring x).n = omega (arith, is-n) in
+      rw h at (all_apart (last_ring x) (last_ring x).time ((last_ring x).n - 1) (ap (λ (f : Finish). f.n_apart) (as_stated x) ∙ e))
 
-  pub is_within : seatsLeast ≤ seatsIn x → seatsIn x ≤ seatsMost → (stated x).verdict ≡ within → RunWithin (seatsIn x) trailOfRun (steps_of x)
+  pub is_within : seats_least ≤ seats_in x → seats_in x ≤ seats_most → (stated x).verdict ≡ within → RunWithin (seats_in x) trail_of_run (steps_of x)
   is_within low high e = record { least = low; most = high; terms = is_found ∙ e }

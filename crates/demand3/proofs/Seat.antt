@@ -9,9 +9,9 @@ use borrow.Author.Tests.{eqb-true, eqb-false, eq-eqb, ne_eqb}
 use Rattle.lists.proofs.Tests.{both}
 use Rattle.lists.proofs.Found.{found}
 use Rattle.turn.specs.Table.{table}
-use Rattle.turn.specs.Turn.{faultAfter}
+use Rattle.turn.specs.Turn.{fault_after}
 use Rattle.turn.specs.declared.Removal.TheVariants.{Nobody}
-use Rattle.turn.proofs.GoneLaws.{takesItself}
+use Rattle.turn.proofs.GoneLaws.{takes_itself}
 use Rattle.demand3.proofs.Model.{State, Marked, owns, acts, rests, owner, role, arrived, row, leaves, drops, learns, hold, step}
 use Rattle.demand3.proofs.Model.{Sound, Faulty, Terms}
 
@@ -102,7 +102,7 @@ agreed true d = refl
 agreed false d = refl
 
 -- a seat with its bit false, where the owner's is true
-above : (arrived d : Bool) → takesItself (table arrived true false d).removed ≡ true
+above : (arrived d : Bool) → takes_itself (table arrived true false d).removed ≡ true
 above true d = refl
 above false d = refl
 
@@ -125,13 +125,13 @@ module _ (t : Marked) (p : ℕ) where
     pub low : learns t p ≡ false
 
   -- so it is where its bit is true and it hears nothing
-  pub deaf-drops : arrived t p ≡ false → ack p ≡ true → DropsOwner
-  deaf-drops r e = record { stays = cc; drop = cc; low = cc }
+  pub deaf_drops : arrived t p ≡ false → ack p ≡ true → DropsOwner
+  deaf_drops r e = record { stays = cc; drop = cc; low = cc }
 
   -- and where its bit is true, it has no doubt, and the owner's bit is false
-  pub false-drops : ack (owner t) ≡ false → ack p ≡ true → doubt p ≡ false → DropsOwner
-  false-drops b e d =
-      ⊎_elim (λ r. record { stays = cc; drop = cc; low = cc }) (λ r. deaf-drops r e) (both (arrived t p))
+  pub false_drops : ack (owner t) ≡ false → ack p ≡ true → doubt p ≡ false → DropsOwner
+  false_drops b e d =
+      ⊎_elim (λ r. record { stays = cc; drop = cc; low = cc }) (λ r. deaf_drops r e) (both (arrived t p))
 
 -- ---- first faults
 
@@ -139,7 +139,7 @@ pub differ : {s : State} {x f p : ℕ} → Faulty s x f → Sound s p → x ≡ 
 differ {s} x p i = omega (arith, ap s.fault i, x.since, p.clean)
 
 -- one that is kept is never changed
-first-kept : (held : Bool) (since fault f : ℕ) → fault ≡ suc f → faultAfter held since fault ≡ suc f
+first-kept : (held : Bool) (since fault f : ℕ) → fault ≡ suc f → fault_after held since fault ≡ suc f
 first-kept true since fault f e = rw (ne_eqb fault 0 (omega arith)) e
 first-kept false since fault f e = e
 
@@ -149,8 +149,8 @@ module _ (t : Marked) {p : ℕ} where
   pub stays-faulty : {f : ℕ} → Faulty now p f → Faulty (step t) p f
   stays-faulty {f} x = record { seat = x.seat; since = first-kept (hold t p) (suc now.time) (now.fault p) f x.since }
 
-  pub back-sound : Sound (step t) p → Sound now p
-  back-sound x = go (kind now p x.seat)
+  pub back_sound : Sound (step t) p → Sound now p
+  back_sound x = go (kind now p x.seat)
     where
       go : Kind now p → Sound now p
       go (sound y) = y
@@ -163,5 +163,5 @@ module _ (t : Marked) {p : ℕ} where
   held h x = record { seat = x.seat; since = cc x.clean }
 
 -- the terms held before the step too
-pub back-terms : (t : Marked) → Terms (step t) → Terms t.now
-back-terms t w = record { apart = λ x y. w.apart (stays-faulty t x) (stays-faulty t y) }
+pub back_terms : (t : Marked) → Terms (step t) → Terms t.now
+back_terms t w = record { apart = λ x y. w.apart (stays-faulty t x) (stays-faulty t y) }

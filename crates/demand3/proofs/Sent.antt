@@ -7,7 +7,7 @@ use native.Mathlib.Omega.{arith}
 use Rattle.lists.proofs.Tests.{same?}
 use Rattle.demand3.proofs.Slots.{OwnSlot, own-slot, once}
 use Rattle.demand3.proofs.Model.{owns, acts, role, hold, Sound, Faulty}
-use Rattle.demand3.proofs.Seat.{SomeSound, some, none, some-sound, role-own, role-act, own-set, act-other, act-owner, differ, back-sound, DropsOwner, deaf-drops}
+use Rattle.demand3.proofs.Seat.{SomeSound, some, none, some-sound, role-own, role-act, own-set, act-other, act-owner, differ, back_sound, DropsOwner, deaf_drops}
 use Rattle.demand3.proofs.Invariant.{Holds, Active, active, Low, NoneSound, Inv}
 use Rattle.demand3.proofs.Moves.{Move, o, later, sees, starts, calm, up, was-faulty, first-kin, after_first}
 
@@ -34,16 +34,16 @@ module _ (m : Move) where
         ne i = differ new sp (sym i)
 
         was : Sound now p
-        was = back-sound given sp
+        was = back_sound given sp
 
         r : role given p ≡ acts
         r = role-act given p ne (sees m was was) (sees m was so)
 
         w : DropsOwner given p
-        w = deaf-drops given p (cc (es, sees m so so)) ((inv.holds was).says ∙ up m (o m) so yo)
+        w = deaf_drops given p (cc (es, sees m so so)) ((inv.holds was).says ∙ up m (o m) so yo)
 
         friends : {q : ℕ} → Sound (later m) q → set' p q ≡ true
-        friends {q} sq = act-other given p r w.stays q (λ i. differ new sq (sym i)) ∙ sees m was (back-sound given sq)
+        friends {q} sq = act-other given p r w.stays q (λ i. differ new sq (sym i)) ∙ sees m was (back_sound given sq)
 
         others : {x f : ℕ} → Faulty (later m) x f → set' p x ≡ false
         others {x} y =
@@ -58,7 +58,7 @@ module _ (m : Move) where
       inside = same (o m) ∙ sees m so so;
       kin = λ u hu e ne. first-kin m (o m) so yo u hu (sym (same u) ∙ e) ne ne;
       opposite = cc own;
-      full = λ h {u} su ne. same u ∙ sees m so (back-sound given su);
+      full = λ h {u} su ne. same u ∙ sees m so (back_sound given su);
       past = λ h k lo hi e. once n time k lo hi e;
     }
       where

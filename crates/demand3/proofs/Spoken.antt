@@ -7,10 +7,10 @@ use native.Mathlib.Omega.{arith}
 use Rattle.lists.proofs.Tests.{both, same?}
 use Rattle.demand3.proofs.Slots.{once}
 use Rattle.demand3.proofs.Model.{acts, role, arrived, leaves, hold, Sound, Faulty}
-use Rattle.demand3.proofs.Seat.{role-own, role-act, role-blind, Still, still, act-other, act-owner, act-self, differ, back-sound}
-use Rattle.demand3.proofs.Seat.{low-leaves, DropsOwner, deaf-drops, false-drops}
+use Rattle.demand3.proofs.Seat.{role-own, role-act, role-blind, Still, still, act-other, act-owner, act-self, differ, back_sound}
+use Rattle.demand3.proofs.Seat.{low-leaves, DropsOwner, deaf_drops, false_drops}
 use Rattle.demand3.proofs.Invariant.{Holds, Active, Latest, gone, alone, active, Pending, Inv}
-use Rattle.demand3.proofs.Moves.{Move, o, later, sees, back-faulty, Hears, hears, role-sound, out_step, alone-step, alone-ack, passed-step}
+use Rattle.demand3.proofs.Moves.{Move, o, later, sees, back_faulty, Hears, hears, role-sound, out_step, alone-step, alone-ack, passed-step}
 use Rattle.demand3.proofs.Moves.{carry, pending-step, after-quiet}
 
 module _ (m : Move) where
@@ -29,14 +29,14 @@ module _ (m : Move) where
 
     holds : (p : ℕ) → Sound (later m) p → Holds (later m) last true due p
     holds p sp = record {
-      friends = λ {q} sq. h.same q ∙ sees m was (back-sound given sq);
-      others = λ {x} y. h.same x ∙ (inv.holds was).others (back-faulty m quiet y);
+      friends = λ {q} sq. h.same q ∙ sees m was (back_sound given sq);
+      others = λ {x} y. h.same x ∙ (inv.holds was).others (back_faulty m quiet y);
       says = h.acks;
       sure = λ k. h.sure (waits k);
     }
       where
         was : Sound now p
-        was = back-sound given sp
+        was = back_sound given sp
 
         h : Hears m p
         h = hears m so es was (heard p was)
@@ -93,8 +93,8 @@ module _ (m : Move) where
         cases true p true d r ei ep ec ed er = leave ei (low-leaves given x (says ∙ ec) (y.opposite ∙ ap not ec))
         cases true true false d r ei ep ec ed er = absurd (false≢true (sym ec ∙ (inv.pend ep).heard))
         cases true false false true true ei ep ec ed er = leave ei (cc (says, y.opposite))
-        cases true false false true false ei ep ec ed er = drop ei ep (deaf-drops given x er (y.opposite ∙ ap not ec))
-        cases true false false false r ei ep ec ed er = drop ei ep (false-drops given x (says ∙ ec) (y.opposite ∙ ap not ec) ed)
+        cases true false false true false ei ep ec ed er = drop ei ep (deaf_drops given x er (y.opposite ∙ ap not ec))
+        cases true false false false r ei ep ec ed er = drop ei ep (false_drops given x (says ∙ ec) (y.opposite ∙ ap not ec) ed)
 
       latest : Latest now f bit due x → Next
       latest (gone e) = gone (out_step m x e)

@@ -6,18 +6,18 @@ use Prim.Native.Nat.{ℕ, ◌+◌, ◌-◌, ◌≤◌, ◌<◌}
 use native.Mathlib.Omega.{arith}
 use lib.Dec.{leb, ltb, eqb}
 use borrow.Author.Tests.{leb-true, leb-false, le-leb, lt-ltb, ltb-true, ltb-false, eqb-false, ne_eqb, not-true}
-use Rattle.lists.specs.Counted.{countBelow, all_below}
-use Rattle.lists.proofs.Tests.{both, and-true, and-of, all-at, all_from}
+use Rattle.lists.specs.Counted.{count_below, all_below}
+use Rattle.lists.proofs.Tests.{both, and-true, and_of, all-at, all_from}
 use Rattle.lists.proofs.Found.{two-counted, counted-two}
-use Rattle.ring.specs.Ring.{seatOf}
-use Rattle.terms.specs.Terms.{faultyBy, distance, apartBy, soundLeast, termsHold}
+use Rattle.ring.specs.Ring.{seat_of}
+use Rattle.terms.specs.Terms.{faulty_by, distance, apart_by, sound_least, terms_hold}
 use Rattle.ring.specs.declared.Ring.{Ring}
 use Rattle.demand3.specs.Faults.{FirstFault, Apart, SoundAfter, TwoSound, TermsHold}
 
 -- ---- the test of two seats: are they one, is each faulty by the step, are the first faults far enough
 
-apart_by : {e a b d : Bool} → e ≡ false → a ≡ true → b ≡ true → (e || not a || not b || d) ≡ true → d ≡ true
-apart_by i j k h = cc
+apart_by_lem : {e a b d : Bool} → e ≡ false → a ≡ true → b ≡ true → (e || not a || not b || d) ≡ true → d ≡ true
+apart_by_lem i j k h = cc
 
 apart_if : (e a b d : Bool) → (e ≡ false → a ≡ true → b ≡ true → d ≡ true) → (e || not a || not b || d) ≡ true
 apart_if true a b d h = refl
@@ -34,19 +34,19 @@ module _ (r : Ring) (t : ℕ) where
   -- ---- faulty by the step
 
   abbrev faulty : ℕ → Bool
-  faulty = faultyBy r.faults t
+  faulty = faulty_by r.faults t
 
   fault-faulty : {x f : ℕ} → FirstFault r x f → f ≤ t → faulty x ≡ true
   fault-faulty {x} y l =
       let e = y.since in
-      and-of (lt-ltb 0 (seatOf r x).fault (omega arith)) (le-leb (seatOf r x).fault (t + 1) (omega arith))
+      and_of (lt-ltb 0 (seat_of r x).fault (omega arith)) (le-leb (seat_of r x).fault (t + 1) (omega arith))
 
   faulty-fault : (x : ℕ) → x < r.n → faulty x ≡ true → (f : ℕ) × (FirstFault r x f) × (f ≤ t)
   faulty-fault x h e =
       let a = and-true _ _ e in
-      let low : 0 < (seatOf r x).fault = ltb-true _ _ a.0 in
-      let high : (seatOf r x).fault ≤ t + 1 = leb-true _ _ a.1 in
-      ((seatOf r x).fault - 1, record { seat = h; since = omega arith }, omega arith)
+      let low : 0 < (seat_of r x).fault = ltb-true _ _ a.0 in
+      let high : (seat_of r x).fault ≤ t + 1 = leb-true _ _ a.1 in
+      ((seat_of r x).fault - 1, record { seat = h; since = omega arith }, omega arith)
 
   sound-after : (p : ℕ) → p < r.n → faulty p ≡ false → SoundAfter r t p
   sound-after p h e = record {
@@ -66,19 +66,19 @@ module _ (r : Ring) (t : ℕ) where
 
   module _ (d : ℕ) where
     abbrev apart : ℕ → ℕ → Bool
-    apart = apartBy d r.faults t
+    apart = apart_by d r.faults t
 
     spaced : {x y f g : ℕ} → apart x y ≡ true → FirstFault r x f → FirstFault r y g → (x ≡ y → ⊥) → f ≤ g → g ≤ t → f + (d + 1) ≤ g
     spaced {x} {y} h fx fy ne l m =
-        let e = apart_by (ne_eqb x y ne) (fault-faulty fx (omega arith)) (fault-faulty fy m) h in
-        omega (arith, leb-true (d + 1) (distance (seatOf r x).fault (seatOf r y).fault) e, fx.since, fy.since)
+        let e = apart_by_lem (ne_eqb x y ne) (fault-faulty fx (omega arith)) (fault-faulty fy m) h in
+        omega (arith, leb-true (d + 1) (distance (seat_of r x).fault (seat_of r y).fault) e, fx.since, fy.since)
 
     far : {x y : ℕ} → x < r.n → y < r.n → Apart (d + 1) r t → apart x y ≡ true
     far {x} {y} hx hy w =
         apart_if (eqb x y) (faulty x) (faulty y) _ (λ e a b. le-leb (d + 1) _ (wide (eqb-false x y e) (faulty-fault x hx a) (faulty-fault y hy b)))
       where
         wide : (x ≡ y → ⊥) → (f : ℕ) × (FirstFault r x f) × (f ≤ t) → (g : ℕ) × (FirstFault r y g) × (g ≤ t)
-            → d + 1 ≤ distance (seatOf r x).fault (seatOf r y).fault
+            → d + 1 ≤ distance (seat_of r x).fault (seat_of r y).fault
         wide ne (f, fx, lf) (g, fy, lg) =
             let i = fx.since in
             let j = fy.since in
@@ -101,7 +101,7 @@ module _ (r : Ring) (t : ℕ) where
   abbrev sound : ℕ → Bool
   sound p = not (faulty p)
 
-  counted-sound : soundLeast ≤ countBelow r.n sound → TwoSound r t
+  counted-sound : sound_least ≤ count_below r.n sound → TwoSound r t
   counted-sound h =
       let k = counted-two sound r.n h in
       record {
@@ -112,7 +112,7 @@ module _ (r : Ring) (t : ℕ) where
         other-sound = sound-after k.1 k.3 (not-true _ k.5);
       }
 
-  sound-counted : TwoSound r t → soundLeast ≤ countBelow r.n sound
+  sound-counted : TwoSound r t → sound_least ≤ count_below r.n sound
   sound-counted k =
       let a : sound k.one ≡ true = ap not (after-sound k.one k.one-sound) in
       let b : sound k.other ≡ true = ap not (after-sound k.other k.other-sound) in
@@ -125,12 +125,12 @@ module _ (r : Ring) (t : ℕ) where
 
   -- ---- the terms up to the step
 
-  pub hold-terms : termsHold r.n r.faults t ≡ true → TermsHold r t
-  unfolding termsHold
+  pub hold-terms : terms_hold r.n r.faults t ≡ true → TermsHold r t
+  unfolding terms_hold
   hold-terms h =
-      let k = and-true (all_below r.n (λ p. all_below r.n (apart r.n p))) (leb soundLeast (countBelow r.n sound)) h in
+      let k = and-true (all_below r.n (λ p. all_below r.n (apart r.n p))) (leb sound_least (count_below r.n sound)) h in
       record { apart = closer (all_apart r.n k.0) (omega arith); sound = counted-sound (leb-true _ _ k.1) }
 
-  pub terms-hold : TermsHold r t → termsHold r.n r.faults t ≡ true
-  unfolding termsHold
-  terms-hold w = and-of (apart-all r.n (closer w.apart (omega arith))) (le-leb soundLeast (countBelow r.n sound) (sound-counted w.sound))
+  pub terms-hold : TermsHold r t → terms_hold r.n r.faults t ≡ true
+  unfolding terms_hold
+  terms-hold w = and_of (apart-all r.n (closer w.apart (omega arith))) (le-leb sound_least (count_below r.n sound) (sound-counted w.sound))

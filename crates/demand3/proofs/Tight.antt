@@ -6,43 +6,43 @@ use Prim.Native.Nat.{ℕ, zero, suc}
 use native.Mathlib.Omega.{arith}
 use borrow.Author.Tests.{eqb-true}
 use Rattle.turn.specs.Turn.{sound}
-use Rattle.ring.specs.Ring.{seatOf}
+use Rattle.ring.specs.Ring.{seat_of}
 use Rattle.ring.specs.declared.Ring.{Ring}
 use Rattle.turn.specs.declared.Seat.{Seat}
 use Rattle.steps.specs.Run.{start}
-use Rattle.steps.proofs.Reached.{run-reached}
+use Rattle.steps.proofs.Reached.{run_reached}
 use Rattle.demand3.specs.Faults.{SoundSeat, SoundAfter}
 use Rattle.demand3.specs.Demand.{Agreement}
-use Rattle.demand3.specs.Runs.{fourApart, threeApart, alone, lastRing}
+use Rattle.demand3.specs.Runs.{four_apart, three_apart, alone, last_ring}
 use Rattle.demand3.specs.Tight.{Tight, ApartIsEnough, AloneStays}
 use Rattle.demand3.proofs.Tested.{closer}
-use Rattle.demand3.proofs.Demand.{agreement-of}
-use Rattle.demand3.proofs.Runs.{is-n, is-time, is-seat, is-sound, is-fault, is-in, is-apart, is_within}
+use Rattle.demand3.proofs.Demand.{agreement_of}
+use Rattle.demand3.proofs.Runs.{is-n, is-time, is-seat, is-sound, is-fault, is_in, is-apart, is_within}
 
 -- a sound seat has no first fault
 never-faulty : (r : Ring) (p t : ℕ) → SoundSeat r p → SoundAfter r t p
-never-faulty r p t s = record { seat = s.seat; later = λ {f} y. absurd (omega (arith, eqb-true (seatOf r p).fault 0 s.never, y.since)) }
+never-faulty r p t s = record { seat = s.seat; later = λ {f} y. absurd (omega (arith, eqb-true (seat_of r p).fault 0 s.never, y.since)) }
 
 module _ where
   abbrev r : Ring
-  r = lastRing fourApart
+  r = last_ring four_apart
 
   one : SoundSeat r 1
-  one = is-sound fourApart 1 refl refl
+  one = is-sound four_apart 1 refl refl
 
   two : SoundSeat r 2
-  two = is-sound fourApart 2 refl refl
+  two = is-sound four_apart 2 refl refl
 
   -- the two hold the sets of one seat each: the other
   apart-sets : Agreement r → ⊥
   apart-sets a =
       let e : ◌≡◌ {A = ℕ} 4 2 =
-      sym (ap (λ (s : Seat). s.set) (is-seat fourApart 1 refl)) ∙ a.same_set one two ∙ ap (λ (s : Seat). s.set) (is-seat fourApart 2 refl) in
+      sym (ap (λ (s : Seat). s.set) (is-seat four_apart 1 refl)) ∙ a.same_set one two ∙ ap (λ (s : Seat). s.set) (is-seat four_apart 2 refl) in
       omega arith
 
 pub tight : Tight
 tight = record {
-  two-left = record { apart = closer (is-apart fourApart (omega arith) refl) (omega arith); broken = apart-sets };
+  two-left = record { apart = closer (is-apart four_apart (omega arith) refl) (omega arith); broken = apart-sets };
   two-sound = record {
     one = 1;
     other = 2;
@@ -50,31 +50,31 @@ tight = record {
     one-sound = never-faulty r 1 _ one;
     other-sound = never-faulty r 2 _ two;
   };
-  one_left = record { apart = closer (is-apart threeApart (omega arith) refl) (omega arith); broken = out-of-its-own };
+  one_left = record { apart = closer (is-apart three_apart (omega arith) refl) (omega arith); broken = out_of_its_own };
   one-sound = last;
   no_other = no_other;
 }
   where
-    last : SoundSeat (lastRing threeApart) 1
-    last = is-sound threeApart 1 refl refl
+    last : SoundSeat (last_ring three_apart) 1
+    last = is-sound three_apart 1 refl refl
 
     -- the sound seat is not in its own set
-    out-of-its-own : Agreement (lastRing threeApart) → ⊥
-    out-of-its-own a = false≢true (sym (is-in threeApart 1 1 refl) ∙ a.sound-in last last)
+    out_of_its_own : Agreement (last_ring three_apart) → ⊥
+    out_of_its_own a = false≢true (sym (is_in three_apart 1 1 refl) ∙ a.sound_in last last)
 
-    no_other : (p : ℕ) → SoundSeat (lastRing threeApart) p → p ≡ 1
-    no_other zero s = absurd (false≢true (sym (ap sound (is-seat threeApart 0 refl)) ∙ s.never))
+    no_other : (p : ℕ) → SoundSeat (last_ring three_apart) p → p ≡ 1
+    no_other zero s = absurd (false≢true (sym (ap sound (is-seat three_apart 0 refl)) ∙ s.never))
     no_other (suc zero) s = refl
-    no_other (suc (suc zero)) s = absurd (false≢true (sym (ap sound (is-seat threeApart 2 refl)) ∙ s.never))
-    no_other (suc (suc (suc p))) s = absurd (omega (arith, s.seat, is-n threeApart))
+    no_other (suc (suc zero)) s = absurd (false≢true (sym (ap sound (is-seat three_apart 2 refl)) ∙ s.never))
+    no_other (suc (suc (suc p))) s = absurd (omega (arith, s.seat, is-n three_apart))
 
-pub apart-is-enough : ApartIsEnough
-apart-is-enough n trail steps low high w = agreement-of n trail low high (run-reached steps start) w
+pub apart-is_enough : ApartIsEnough
+apart-is_enough n trail steps low high w = agreement_of n trail low high (run_reached steps start) w
 
 pub alone-stays : AloneStays
 alone-stays = record {
   within = is_within alone (omega arith) (omega arith) refl;
   fault = is-fault alone 1 0 refl refl;
   over = omega (arith, is-n alone, is-time alone);
-  stays = ap not (is-in alone 1 1 refl);
+  stays = ap not (is_in alone 1 1 refl);
 }

@@ -1,8 +1,8 @@
 -- What the verdict decides: the fault terms up to every step taken, and the first step up to which they fail.
 use Rattle.std.specs.Prelude.{true, ◌≡◌, ℕ, ◌<◌}
-use Rattle.limits.specs.Limits.{roomMost}
+use Rattle.limits.specs.Limits.{room_most}
 use Rattle.ring.specs.Ring.{is_ring}
-use Rattle.ring.specs.Refusals.{verdictFound, within, outside}
+use Rattle.ring.specs.Refusals.{verdict_found, within, outside}
 use Rattle.ring.specs.declared.Ring.{Ring}
 use Rattle.demand3.specs.Faults.{TermsHold}
 
@@ -18,7 +18,7 @@ pub record FirstFailing (r : Ring) (T : ℕ) : Type 0 where
 
 -- both verdicts, both ways
 pub record Decides (r : Ring) : Type 0 where
-  pub within-kept : verdictFound r ≡ within → TermsKept r
-  pub kept-within : is_ring r roomMost ≡ true → TermsKept r → verdictFound r ≡ within
-  pub outside-failing : (T : ℕ) → verdictFound r ≡ outside T → FirstFailing r T
-  pub failing-outside : is_ring r roomMost ≡ true → (T : ℕ) → FirstFailing r T → verdictFound r ≡ outside T
+  pub within-kept : verdict_found r ≡ within → TermsKept r
+  pub kept-within : is_ring r room_most ≡ true → TermsKept r → verdict_found r ≡ within
+  pub outside-failing : (T : ℕ) → verdict_found r ≡ outside T → FirstFailing r T
+  pub failing-outside : is_ring r room_most ≡ true → (T : ℕ) → FirstFailing r T → verdict_found r ≡ outside T

@@ -2,12 +2,12 @@
 use Rattle.std.specs.Prelude.{List, ◌≡◌, ℕ, ◌≤◌, ◌<◌}
 use Rattle.limits.specs.Refusals.{done}
 use Rattle.ring.specs.Refusals.{within}
-use Rattle.steps.specs.Run.{toldOn}
+use Rattle.steps.specs.Run.{told_on}
 use Rattle.sheet_lines.specs.Found.{found}
-use Rattle.sheet.specs.Sheets.{sheetIn}
+use Rattle.sheet.specs.Sheets.{sheet_in}
 use Rattle.sheet.specs.declared.Sheet.{Sheet}
-use Rattle.run.specs.Marks.{marksAt}
-use Rattle.run.specs.Along.{benchAt}
+use Rattle.run.specs.Marks.{marks_at}
+use Rattle.run.specs.Along.{bench_at}
 use Rattle.run.specs.Outcome.{Heard, ran}
 use Rattle.run.specs.Run.{run_of}
 use Rattle.demand3.specs.Demand.{Agreement}
@@ -17,11 +17,11 @@ use Rattle.demand3.specs.Demand.{Agreement}
 pub record AgreedThroughout (bytes trail : List ℕ) : Type 0 where
   pub sheet : Sheet
   pub end : ℕ
-  pub read : sheetIn bytes ≡ found sheet end
+  pub read : sheet_in bytes ≡ found sheet end
   pub steps : ℕ
-  pub taken : (k : ℕ) → k < steps → toldOn (marksAt sheet k) (benchAt sheet trail k) ≡ done
-  pub last : (run_of bytes trail).ring ≡ (benchAt sheet trail steps).ring
-  pub agreed : (k : ℕ) → k ≤ steps → Agreement (benchAt sheet trail k).ring
+  pub taken : (k : ℕ) → k < steps → told_on (marks_at sheet k) (bench_at sheet trail k) ≡ done
+  pub last : (run_of bytes trail).ring ≡ (bench_at sheet trail steps).ring
+  pub agreed : (k : ℕ) → k ≤ steps → Agreement (bench_at sheet trail k).ring
 
 -- whatever the bytes and the trail, and whatever the bus showed: a run that ends with the verdict `within`
 abbrev pub Demand3OfSheets : Type 0

@@ -26,8 +26,8 @@ numbered NoRoom = refl
 numbered AtTheEnd = refl
 numbered NotARing = refl
 
-pub one-reason : (a b : Refusal) → number_of a ≡ number_of b → a ≡ b
-one-reason a b e = sym (numbered a) ∙ ap (λ (k : ℕ). get_or reasons k NotARing) e ∙ numbered b
+pub one_reason : (a b : Refusal) → number_of a ≡ number_of b → a ≡ b
+one_reason a b e = sym (numbered a) ∙ ap (λ (k : ℕ). get_or reasons k NotARing) e ∙ numbered b
 
 -- ---- an answer
 

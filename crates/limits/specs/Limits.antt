@@ -2,26 +2,26 @@
 use Rattle.std.specs.Prelude.{Bool, ◌&&◌, ℕ, leb}
 
 -- a ring has 2 to 32 seats
-abbrev pub seatsLeast : ℕ
-seatsLeast = 2
+abbrev pub seats_least : ℕ
+seats_least = 2
 
-abbrev pub seatsMost : ℕ
-seatsMost = 32
+abbrev pub seats_most : ℕ
+seats_most = 32
 
-abbrev pub seatsStand : ℕ → Bool
-seatsStand n = leb seatsLeast n && leb n seatsMost
+abbrev pub seats_stand : ℕ → Bool
+seats_stand n = leb seats_least n && leb n seats_most
 
 -- a run has at most 4,096 slots
-abbrev pub slotsMost : ℕ
-slotsMost = 4096
+abbrev pub slots_most : ℕ
+slots_most = 4096
 
 -- a trail has room for at most 1,024 records
-abbrev pub roomMost : ℕ
-roomMost = 1024
+abbrev pub room_most : ℕ
+room_most = 1024
 
 -- a sheet has at most 256 marks, and module numbers up to 65,535
-abbrev pub marksMost : ℕ
-marksMost = 256
+abbrev pub marks_most : ℕ
+marks_most = 256
 
-abbrev pub moduleMost : ℕ
-moduleMost = 65535
+abbrev pub module_most : ℕ
+module_most = 65535

@@ -22,43 +22,43 @@ number_of NotARing = 10
 -- ---- who can give which
 
 -- the reader of a sheet
-abbrev pub ofSheet : Refusal → Bool
-ofSheet EndsEarly = true
-ofSheet WrongByte = true
-ofSheet OutsideLimits = true
-ofSheet ModuleTwice = true
-ofSheet MarkNotAbove = true
-ofSheet WrongMark = true
-ofSheet BytesAfter = true
-ofSheet NoRoom = false
-ofSheet AtTheEnd = false
-ofSheet NotARing = false
+abbrev pub of_sheet : Refusal → Bool
+of_sheet EndsEarly = true
+of_sheet WrongByte = true
+of_sheet OutsideLimits = true
+of_sheet ModuleTwice = true
+of_sheet MarkNotAbove = true
+of_sheet WrongMark = true
+of_sheet BytesAfter = true
+of_sheet NoRoom = false
+of_sheet AtTheEnd = false
+of_sheet NotARing = false
 
 -- the reader, for what stands on a whole line: the place is the line's first byte
-abbrev pub ofLine : Refusal → Bool
-ofLine EndsEarly = false
-ofLine WrongByte = false
-ofLine OutsideLimits = true
-ofLine ModuleTwice = true
-ofLine MarkNotAbove = true
-ofLine WrongMark = true
-ofLine BytesAfter = false
-ofLine NoRoom = false
-ofLine AtTheEnd = false
-ofLine NotARing = false
+abbrev pub of_line : Refusal → Bool
+of_line EndsEarly = false
+of_line WrongByte = false
+of_line OutsideLimits = true
+of_line ModuleTwice = true
+of_line MarkNotAbove = true
+of_line WrongMark = true
+of_line BytesAfter = false
+of_line NoRoom = false
+of_line AtTheEnd = false
+of_line NotARing = false
 
 -- a step
-abbrev pub ofStep : Refusal → Bool
-ofStep EndsEarly = false
-ofStep WrongByte = false
-ofStep OutsideLimits = false
-ofStep ModuleTwice = false
-ofStep MarkNotAbove = false
-ofStep WrongMark = true
-ofStep BytesAfter = false
-ofStep NoRoom = true
-ofStep AtTheEnd = true
-ofStep NotARing = true
+abbrev pub of_step : Refusal → Bool
+of_step EndsEarly = false
+of_step WrongByte = false
+of_step OutsideLimits = false
+of_step ModuleTwice = false
+of_step MarkNotAbove = false
+of_step WrongMark = true
+of_step BytesAfter = false
+of_step NoRoom = true
+of_step AtTheEnd = true
+of_step NotARing = true
 
 -- ---- answers
 
@@ -68,6 +68,6 @@ pub data Told : Type 0 where
   refused : (number place : ℕ) → Told
 
 -- what there is where it is done, and what there is where it is refused
-abbrev pub onDone : {A : Type 0} → Told → A → A → A
-onDone done a b = a
-onDone (refused number place) a b = b
+abbrev pub on_done : {A : Type 0} → Told → A → A → A
+on_done done a b = a
+on_done (refused number place) a b = b

@@ -6,8 +6,8 @@ use mathlib.Core.Path.{◌≡◌, ap}
 use Prim.Native.Nat.{ℕ, zero, suc, ◌+◌, ◌≤◌, ◌<◌}
 use native.Mathlib.Omega.{arith}
 use borrow.Author.Tests.{not-true, not-false}
-use Rattle.lists.specs.Counted.{countBelow, all_below}
-use Rattle.lists.proofs.Counted.{sum-le, sum-zero}
+use Rattle.lists.specs.Counted.{count_below, all_below}
+use Rattle.lists.proofs.Counted.{sum_le, sum-zero}
 use Rattle.lists.proofs.Tests.{both, all-at, all-not}
 
 module _ (f : ℕ → Bool) where
@@ -21,28 +21,28 @@ module _ (f : ℕ → Bool) where
 
   -- ---- counted
 
-  counts : (k : ℕ) → f k ≡ true → countBelow (suc k) f ≡ countBelow k f + 1
+  counts : (k : ℕ) → f k ≡ true → count_below (suc k) f ≡ count_below k f + 1
   counts k e = rw e
 
-  passes : (k : ℕ) → f k ≡ false → countBelow (suc k) f ≡ countBelow k f + 0
+  passes : (k : ℕ) → f k ≡ false → count_below (suc k) f ≡ count_below k f + 0
   passes k e = rw e
 
   -- one is below the count
-  pub one-counted : (k p : ℕ) → p < k → f p ≡ true → 0 < countBelow k f
-  one-counted k p l e = omega (arith, counts p e, sum-le (λ i. cond (f i) 1 0) (suc p) k l)
+  pub one-counted : (k p : ℕ) → p < k → f p ≡ true → 0 < count_below k f
+  one-counted k p l e = omega (arith, counts p e, sum_le (λ i. cond (f i) 1 0) (suc p) k l)
 
-  pub two-counted : (k p q : ℕ) → p < q → q < k → f p ≡ true → f q ≡ true → 2 ≤ countBelow k f
-  two-counted k p q l m e g = omega (arith, one-counted q p l e, counts q g, sum-le (λ i. cond (f i) 1 0) (suc q) k m)
+  pub two-counted : (k p q : ℕ) → p < q → q < k → f p ≡ true → f q ≡ true → 2 ≤ count_below k f
+  two-counted k p q l m e g = omega (arith, one-counted q p l e, counts q g, sum_le (λ i. cond (f i) 1 0) (suc q) k m)
 
   -- a count above 0 has one
-  pub counted-one : (k : ℕ) → 0 < countBelow k f → (p : ℕ) × (p < k) × (f p ≡ true)
+  pub counted-one : (k : ℕ) → 0 < count_below k f → (p : ℕ) × (p < k) × (f p ≡ true)
   counted-one k h =
       ⊎_elim
       (λ r. r)
       (λ none. absurd (omega (arith, sum-zero (λ i. cond (f i) 1 0) k (λ i l. ap (λ (b : Bool). cond b 1 0) (none i l)))))
       (found k)
 
-  pub counted-two : (k : ℕ) → 2 ≤ countBelow k f → (p : ℕ) × (q : ℕ) × (p < q) × (q < k) × (f p ≡ true) × (f q ≡ true)
+  pub counted-two : (k : ℕ) → 2 ≤ count_below k f → (p : ℕ) × (q : ℕ) × (p < q) × (q < k) × (f p ≡ true) × (f q ≡ true)
   counted-two zero h = absurd (omega arith)
   counted-two (suc k) h =
       ⊎_elim

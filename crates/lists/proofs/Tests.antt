@@ -9,7 +9,7 @@ use native.Mathlib.Numerals.{add-one}
 use native.Mathlib.Omega.{arith}
 use lib.Dec.{ltb, eqb}
 use borrow.Author.Tests.{lt-ltb, le-ltb, ltb-true, ltb-false, eqb-true, eqb-false, eq-eqb, ne_eqb}
-use Rattle.lists.specs.Counted.{all_below, firstBelow}
+use Rattle.lists.specs.Counted.{all_below, first_below}
 use Rattle.lists.proofs.Counted.{below_last}
 pub use mathlib.Core.Bool.{and-false}
 
@@ -22,8 +22,8 @@ both false = inr refl
 pub same? : (p q : ℕ) → (p ≡ q) ⊎ (p ≡ q → ⊥)
 same? p q = ⊎_elim (λ e. inl (eqb-true p q e)) (λ e. inr (eqb-false p q e)) (both (eqb p q))
 
-pub eqb-sym : (p q : ℕ) → eqb p q ≡ eqb q p
-eqb-sym p q =
+pub eqb_sym : (p q : ℕ) → eqb p q ≡ eqb q p
+eqb_sym p q =
     ⊎_elim (λ e. eq-eqb p q e ∙ sym (eq-eqb q p (sym e))) (λ n. ne_eqb p q n ∙ sym (ne_eqb q p (λ e. n (sym e)))) (same? p q)
 
 -- ---- and
@@ -32,8 +32,8 @@ pub and-true : (a b : Bool) → (a && b) ≡ true → (a ≡ true) × (b ≡ tru
 and-true true b e = (refl, e)
 and-true false b e = absurd (false≢true e)
 
-pub and-of : {a b : Bool} → a ≡ true → b ≡ true → (a && b) ≡ true
-and-of p q = rw (p, q)
+pub and_of : {a b : Bool} → a ≡ true → b ≡ true → (a && b) ≡ true
+and_of p q = rw (p, q)
 
 -- an `and` that fails, fails at one of the two
 pub and-fails : (a b : Bool) → (a && b) ≡ false → (a ≡ false) ⊎ (b ≡ false)
@@ -74,61 +74,61 @@ all-not f (suc k) e =
 
 -- ---- the first number below a count
 
-pub first-le : (f : ℕ → Bool) (k : ℕ) → firstBelow k f ≤ k
-first-le f zero = le_refl 0
-first-le f (suc k) =
+pub first_le : (f : ℕ → Bool) (k : ℕ) → first_below k f ≤ k
+first_le f zero = le_refl 0
+first_le f (suc k) =
     ⊎_elim
-    (λ e. rw e (omega (arith, ltb-true (firstBelow k f) k e)))
+    (λ e. rw e (omega (arith, ltb-true (first_below k f) k e)))
     (λ e. rw e (⊎_elim (λ p. rw p (omega arith)) (λ p. rw p (omega arith)) (both (f k))))
-    (both (ltb (firstBelow k f) k))
+    (both (ltb (first_below k f) k))
 
 -- none passes: the count itself
-pub first-none : (f : ℕ → Bool) (k : ℕ) → ((i : ℕ) → i < k → f i ≡ false) → firstBelow k f ≡ k
+pub first-none : (f : ℕ → Bool) (k : ℕ) → ((i : ℕ) → i < k → f i ≡ false) → first_below k f ≡ k
 first-none f zero h = refl
 first-none f (suc k) h =
     let e = first-none f k (λ i l. h i (omega arith)) in
-    rw (le-ltb (firstBelow k f) k (omega arith), h k (omega arith))
+    rw (le-ltb (first_below k f) k (omega arith), h k (omega arith))
 
 -- one passes and none before it: that one
-pub first-is : (f : ℕ → Bool) (k i : ℕ) → i < k → f i ≡ true → ((j : ℕ) → j < i → f j ≡ false) → firstBelow k f ≡ i
+pub first-is : (f : ℕ → Bool) (k i : ℕ) → i < k → f i ≡ true → ((j : ℕ) → j < i → f j ≡ false) → first_below k f ≡ i
 first-is f zero i l p h = absurd (omega arith)
 first-is f (suc k) i l p h =
     ⊎_elim
-    (λ m. let e = first-is f k i m p h in rw (lt-ltb (firstBelow k f) k (omega arith)) e)
+    (λ m. let e = first-is f k i m p h in rw (lt-ltb (first_below k f) k (omega arith)) e)
     (λ q.
     let e = first-none f k (λ j m. h j (omega arith)) in
-    rw (le-ltb (firstBelow k f) k (omega arith), ap f (sym q) ∙ p) (sym q))
+    rw (le-ltb (first_below k f) k (omega arith), ap f (sym q) ∙ p) (sym q))
     (below_last i k l)
 
 -- what the first below k + 1 is, by what the first below k is and whether k passes
-first-old : (f : ℕ → Bool) (k : ℕ) → ltb (firstBelow k f) k ≡ true → firstBelow (suc k) f ≡ firstBelow k f
+first-old : (f : ℕ → Bool) (k : ℕ) → ltb (first_below k f) k ≡ true → first_below (suc k) f ≡ first_below k f
 first-old f k e = rw e
 
-first-new : (f : ℕ → Bool) (k : ℕ) → ltb (firstBelow k f) k ≡ false → f k ≡ true → firstBelow (suc k) f ≡ k
+first-new : (f : ℕ → Bool) (k : ℕ) → ltb (first_below k f) k ≡ false → f k ≡ true → first_below (suc k) f ≡ k
 first-new f k e p = rw (e, p)
 
-first_past : (f : ℕ → Bool) (k : ℕ) → ltb (firstBelow k f) k ≡ false → f k ≡ false → firstBelow (suc k) f ≡ suc k
+first_past : (f : ℕ → Bool) (k : ℕ) → ltb (first_below k f) k ≡ false → f k ≡ false → first_below (suc k) f ≡ suc k
 first_past f k e p = rw (e, p)
 
 -- the first that passes does pass
-pub first_passes : (f : ℕ → Bool) (k : ℕ) → firstBelow k f < k → f (firstBelow k f) ≡ true
+pub first_passes : (f : ℕ → Bool) (k : ℕ) → first_below k f < k → f (first_below k f) ≡ true
 first_passes f zero l = absurd (omega arith)
 first_passes f (suc k) l =
     ⊎_elim
-    (λ e. ap f (first-old f k e) ∙ first_passes f k (ltb-true (firstBelow k f) k e))
+    (λ e. ap f (first-old f k e) ∙ first_passes f k (ltb-true (first_below k f) k e))
     (λ e. ⊎_elim (λ p. ap f (first-new f k e p) ∙ p) (λ p. absurd (omega (arith, first_past f k e p))) (both (f k)))
-    (both (ltb (firstBelow k f) k))
+    (both (ltb (first_below k f) k))
 
 -- and those before it do not
-pub first-before : (f : ℕ → Bool) (k i : ℕ) → i < firstBelow k f → f i ≡ false
+pub first-before : (f : ℕ → Bool) (k i : ℕ) → i < first_below k f → f i ≡ false
 first-before f zero i l = absurd (omega arith)
 first-before f (suc k) i l =
     ⊎_elim
     (λ e. first-before f k i (omega (arith, first-old f k e)))
     (λ e.
-    let low : k ≤ firstBelow k f = ltb-false (firstBelow k f) k e in
+    let low : k ≤ first_below k f = ltb-false (first_below k f) k e in
     ⊎_elim
     (λ p. first-before f k i (omega (arith, first-new f k e p)))
     (λ p. ⊎_elim (λ h. first-before f k i (omega arith)) (λ q. ap f q ∙ p) (below_last i k (omega (arith, first_past f k e p))))
     (both (f k)))
-    (both (ltb (firstBelow k f) k))
+    (both (ltb (first_below k f) k))

@@ -17,8 +17,8 @@ sum zero f = 0
 sum (suc k) f = sum k f + f k
 
 -- how many of the numbers below k pass the test
-abbrev pub countBelow : ℕ → (ℕ → Bool) → ℕ
-countBelow k test = sum k (λ i. cond (test i) 1 0)
+abbrev pub count_below : ℕ → (ℕ → Bool) → ℕ
+count_below k test = sum k (λ i. cond (test i) 1 0)
 
 -- every number below k passes the test
 abbrev pub all_below : ℕ → (ℕ → Bool) → Bool
@@ -26,11 +26,11 @@ all_below zero test = true
 all_below (suc k) test = all_below k test && test k
 
 -- some number below k passes the test
-abbrev pub anyBelow : ℕ → (ℕ → Bool) → Bool
-anyBelow zero test = false
-anyBelow (suc k) test = anyBelow k test || test k
+abbrev pub any_below : ℕ → (ℕ → Bool) → Bool
+any_below zero test = false
+any_below (suc k) test = any_below k test || test k
 
 -- the first number below k that passes the test, and k where none does
-abbrev pub firstBelow : ℕ → (ℕ → Bool) → ℕ
-firstBelow zero test = 0
-firstBelow (suc k) test = cond (ltb (firstBelow k test) k) (firstBelow k test) (cond (test k) k (suc k))
+abbrev pub first_below : ℕ → (ℕ → Bool) → ℕ
+first_below zero test = 0
+first_below (suc k) test = cond (ltb (first_below k test) k) (first_below k test) (cond (test k) k (suc k))

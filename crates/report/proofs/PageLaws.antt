@@ -12,11 +12,11 @@ use lib.Seq.{take_all}
 use borrow.Author.Tests.{leb-true}
 use denote.Enum.Declared.{tag_of}
 use Rattle.lists.proofs.Tests.{both, and-true}
-use Rattle.limits.specs.Limits.{seatsMost}
+use Rattle.limits.specs.Limits.{seats_most}
 use Rattle.limits.specs.Refusals.{number_of}
 use Rattle.limits.specs.declared.Refusal.{Refusal}
 use Rattle.limits.specs.declared.Refusal.TheVariants.{NotARing}
-use Rattle.trail.specs.Trail.{roomFor}
+use Rattle.trail.specs.Trail.{room_for}
 use Rattle.ring.specs.Refusals.{found}
 use Rattle.ring.specs.declared.Verdict.{Verdict}
 use Rattle.ring.specs.declared.Verdict.TheVariants as verdicts
@@ -25,59 +25,59 @@ use Rattle.run.specs.Outcome.{Heard, Result, heard}
 use Rattle.run.specs.declared.Bus.{Bus}
 use Rattle.run.specs.declared.Ran.{Ran}
 use Rattle.run.specs.declared.RunAnswer.TheVariants as answers
-use Rattle.report.specs.Page.{busLine, faultsLine, refusedLine, printable, sections, ranPage, page_of, result_of}
-use Rattle.report.specs.Promise.{pageMost, Prints}
-use Rattle.report.specs.Inside.{Writes, upToFaults}
+use Rattle.report.specs.Page.{bus_line, faults_line, refused_line, printable, sections, ran_page, page_of, result_of}
+use Rattle.report.specs.Promise.{page_most, Prints}
+use Rattle.report.specs.Inside.{Writes, up_to_faults}
 use Rattle.text.specs.declared.Place.{Place}
 use Rattle.text.proofs.Written.{Written, from_start}
 
 -- ---- what can be printed
 
-pub holds : (x : Result) → printable x ≡ true → (x.ring.n ≤ seatsMost) × (x.ring.records ≤ roomFor (length x.trail))
+pub holds : (x : Result) → printable x ≡ true → (x.ring.n ≤ seats_most) × (x.ring.records ≤ room_for (length x.trail))
 holds x e =
-    let room = roomFor (length x.trail) in
-    let b = and-true (leb x.ring.n seatsMost) (leb x.ring.records room) e in
-    (leb-true x.ring.n seatsMost b.0, leb-true x.ring.records room b.1)
+    let room = room_for (length x.trail) in
+    let b = and-true (leb x.ring.n seats_most) (leb x.ring.records room) e in
+    (leb-true x.ring.n seats_most b.0, leb-true x.ring.records room b.1)
 
 -- ---- the page by the answer
 
 module _ (x : Result) (bus : Heard) (v : Verdict) where
-  pub page-unfit : {why : Refusal} {place : ℕ} → v ≡ verdicts.Refused why place → refusedLine (number_of why) place ≡ ranPage x bus (found v)
+  pub page-unfit : {why : Refusal} {place : ℕ} → v ≡ verdicts.Refused why place → refused_line (number_of why) place ≡ ran_page x bus (found v)
   page-unfit e = rw e
 
   -- by the position of the verdict's variant: within is 0, outside is 1
   module _ (fit : (tag_of the_type v ≡ 0) ⊎ (tag_of the_type v ≡ 1)) where
-    fit-page : sections x bus (found v) ≡ ranPage x bus (found v)
+    fit-page : sections x bus (found v) ≡ ran_page x bus (found v)
     fit-page = go v fit
       where
-        go : (w : Verdict) → (tag_of the_type w ≡ 0) ⊎ (tag_of the_type w ≡ 1) → sections x bus (found w) ≡ ranPage x bus (found w)
+        go : (w : Verdict) → (tag_of the_type w ≡ 0) ⊎ (tag_of the_type w ≡ 1) → sections x bus (found w) ≡ ran_page x bus (found w)
         go verdicts.Within m = refl
         go (verdicts.Outside t) m = refl
         go (verdicts.Refused why place) m = absurd (⊎_elim (λ e. omega arith) (λ e. omega arith) m)
 
-    pub page-printed : printable x ≡ true → upToFaults x (busLine bus) ++ faultsLine (found v) ≡ ranPage x bus (found v)
+    pub page-printed : printable x ≡ true → up_to_faults x (bus_line bus) ++ faults_line (found v) ≡ ran_page x bus (found v)
     page-printed e = rw (← fit-page, e) (simp append_assoc)
 
-    pub page-no-ring : printable x ≡ false → refusedLine (number_of NotARing) 0 ≡ ranPage x bus (found v)
-    page-no-ring e = rw (← fit-page, e)
+    pub page_no_ring : printable x ≡ false → refused_line (number_of NotARing) 0 ≡ ran_page x bus (found v)
+    page_no_ring e = rw (← fit-page, e)
 
 module _ (r : Ran) (t : List ℕ) where
-  pub page-refused : {why : Refusal} {place : ℕ} → r.answer ≡ answers.Refused why place → refusedLine (number_of why) place ≡ page_of (result_of r t)
+  pub page-refused : {why : Refusal} {place : ℕ} → r.answer ≡ answers.Refused why place → refused_line (number_of why) place ≡ page_of (result_of r t)
   unfolding page_of
   page-refused e = rw e
 
-  pub page-ran : {bus : Bus} {v : Verdict} → r.answer ≡ answers.Ran bus v → ranPage (result_of r t) (heard bus) (found v) ≡ page_of (result_of r t)
+  pub page-ran : {bus : Bus} {v : Verdict} → r.answer ≡ answers.Ran bus v → ran_page (result_of r t) (heard bus) (found v) ≡ page_of (result_of r t)
   unfolding page_of
   page-ran e = rw e
 
 -- ---- the promise
 
-module _ (text : List ℕ) {page page' : List ℕ} {end : Place} (w : Writes text pageMost (record { at = 0; whole = true }) page end page') where
+module _ (text : List ℕ) {page page' : List ℕ} {end : Place} (w : Writes text page_most (record { at = 0; whole = true }) page end page') where
   all : Written page text end page'
   all = rw (← w.done) at (from_start page text)
 
-  pub prints-whole : end.whole ≡ true → Prints text page end.at page'
-  prints-whole h =
+  pub prints_whole : end.whole ≡ true → Prints text page end.at page'
+  prints_whole h =
       let l : leb (length text) (length page) ≡ true = sym all.whole ∙ h in
       record {
         bytes = all.bytes;
@@ -85,16 +85,16 @@ module _ (text : List ℕ) {page page' : List ℕ} {end : Place} (w : Writes tex
         short = w.short;
       }
 
-  pub prints-cut : end.whole ≡ false → Prints text page 0 page'
-  prints-cut h =
+  pub prints_cut : end.whole ≡ false → Prints text page 0 page'
+  prints_cut h =
       let l : leb (length text) (length page) ≡ false = sym all.whole ∙ h in
       record { bytes = all.bytes; result = sym (rw l); short = w.short }
 
 -- ---- for callers
 
 -- what is given back never reaches past the buffer
-pub within-buffer : (text page : List ℕ) (r : ℕ) (page' : List ℕ) → Prints text page r page' → r ≤ length page
-within-buffer text page r page' a =
+pub within_buffer : (text page : List ℕ) (r : ℕ) (page' : List ℕ) → Prints text page r page' → r ≤ length page
+within_buffer text page r page' a =
     ⊎_elim
     (λ e. let z : r ≡ length text = a.result ∙ rw e in omega (arith, leb-true (length text) (length page) e))
     (λ e. let z : r ≡ 0 = a.result ∙ rw e in omega arith)

@@ -1,35 +1,35 @@
 -- What the functions that write the page promise each other: their text, and the most bytes that it has.
 use Rattle.std.specs.Prelude.{List, [], ◌∷◌, ◌++◌, ◌≡◌, ℕ, ◌+◌, ◌*◌, ◌≤◌, length}
-use Rattle.limits.specs.Limits.{seatsMost, roomMost}
+use Rattle.limits.specs.Limits.{seats_most, room_most}
 use Rattle.run.specs.Outcome.{Result}
 use Rattle.text.specs.Decimal.{decimal}
-use Rattle.text.specs.Lent.{lent, withText}
+use Rattle.text.specs.Lent.{lent, with_text}
 use Rattle.text.specs.declared.Place.{Place}
-use Rattle.report.specs.Page.{line_of, recordsAndSeats}
-use Rattle.report.specs.Promise.{recordMost}
+use Rattle.report.specs.Page.{line_of, records_and_seats}
+use Rattle.report.specs.Promise.{record_most}
 
 -- the most bytes in the line of a count, of a seat and in the two verdict lines: no number in them has more than
 -- five digits
-abbrev pub countMost : ℕ
-countMost = 6
+abbrev pub count_most : ℕ
+count_most = 6
 
-abbrev pub seatMost : ℕ
-seatMost = 22
+abbrev pub seat_most : ℕ
+seat_most = 22
 
-abbrev pub busMost : ℕ
-busMost = 18
+abbrev pub bus_most : ℕ
+bus_most = 18
 
-abbrev pub faultsMost : ℕ
-faultsMost = 21
+abbrev pub faults_most : ℕ
+faults_most = 21
 
 -- the page up to its last line, and the most bytes in it
-abbrev pub upToFaults : Result → List ℕ → List ℕ
-upToFaults x bus = recordsAndSeats x ++ line_of (decimal 2 ∷ []) ++ bus
+abbrev pub up_to_faults : Result → List ℕ → List ℕ
+up_to_faults x bus = records_and_seats x ++ line_of (decimal 2 ∷ []) ++ bus
 
-abbrev pub upToFaultsMost : ℕ
-upToFaultsMost = countMost + recordMost * roomMost + (countMost + seatMost * seatsMost) + countMost + busMost
+abbrev pub up_to_faults_most : ℕ
+up_to_faults_most = count_most + record_most * room_most + (count_most + seat_most * seats_most) + count_most + bus_most
 
 -- the text is written, and has at most so many bytes
 pub record Writes (text : List ℕ) (most : ℕ) (place : Place) (page : List ℕ) (place' : Place) (page' : List ℕ) : Type 0 where
-  pub done : lent place' page' ≡ withText (lent place page) text
+  pub done : lent place' page' ≡ with_text (lent place page) text
   pub short : length text ≤ most

@@ -1,7 +1,7 @@
 -- What `print` and `no_page` promise: the bytes written, the number given back, and that no page is long.
 use Rattle.std.specs.Prelude.{cond, List, ◌≡◌, ℕ, ◌+◌, ◌*◌, ◌≤◌, leb, length, take, replicate}
 use Rattle.lists.specs.Put.{put}
-use Rattle.limits.specs.Limits.{roomMost}
+use Rattle.limits.specs.Limits.{room_most}
 use Rattle.run.specs.declared.Ran.{Ran}
 use Rattle.report.specs.Page.{page_of, result_of}
 
@@ -9,20 +9,20 @@ use Rattle.report.specs.Page.{page_of, result_of}
 
 -- the most bytes in the line of a record: three numbers of at most five digits, a letter, three spaces and a
 -- line feed
-abbrev pub recordMost : ℕ
-recordMost = 20
+abbrev pub record_most : ℕ
+record_most = 20
 
 -- and in all the rest of a page: counts, seats and verdict, or the line of a refusal
-abbrev pub restMost : ℕ
-restMost = 1024
+abbrev pub rest_most : ℕ
+rest_most = 1024
 
 -- no page is longer
-abbrev pub pageMost : ℕ
-pageMost = recordMost * roomMost + restMost
+abbrev pub page_most : ℕ
+page_most = record_most * room_most + rest_most
 
 -- a buffer for any page, nothing written yet
-unfoldable pub noPage : List ℕ
-noPage = replicate pageMost 0
+unfoldable pub no_page : List ℕ
+no_page = replicate page_most 0
 
 -- ---- a text printed
 
@@ -32,7 +32,7 @@ pub record Prints (text page : List ℕ) (r : ℕ) (page' : List ℕ) : Type 0 w
   pub bytes : page' ≡ put page 0 (take (length page) text)
   -- the text's length, or 0 where the buffer is too short for it
   pub result : r ≡ cond (leb (length text) (length page)) (length text) 0
-  pub short : length text ≤ pageMost
+  pub short : length text ≤ page_most
 
 -- the page of what a run gives back, for any such value and any trail
 abbrev pub PrintPromise : Ran → (trail page : List ℕ) → ℕ → List ℕ → Type 0

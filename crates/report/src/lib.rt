@@ -1,6 +1,6 @@
 // The printed page of what a run leaves, as document 01 says under 'What the program prints'.
 ghost use Rattle.std.specs.Prelude.{◌≡◌};
-ghost use Rattle.report.specs.Promise.{noPage, PrintPromise};
+ghost use Rattle.report.specs.Promise.{no_page, PrintPromise};
 
 use run::Ran;
 use text::Place;
@@ -17,7 +17,7 @@ pub const PAGE_MOST: usize = RECORD_MOST * limits::ROOM_MOST + REST_MOST;
 
 // An empty buffer that has room for any page.
 pub fn no_page() -> [u8; PAGE_MOST]
-    ensures { result ≡ noPage }
+    ensures { result ≡ no_page }
 {
     [0u8; PAGE_MOST]
 }

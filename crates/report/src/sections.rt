@@ -1,12 +1,12 @@
 // The page's sections, each after its count, and the page made of them.
 ghost use Rattle.std.specs.Prelude.{true, ◌≡◌, ◌+◌, ◌*◌, ◌≤◌, length};
-ghost use Rattle.limits.specs.Limits.{seatsMost};
-ghost use Rattle.trail.specs.Trail.{roomFor};
+ghost use Rattle.limits.specs.Limits.{seats_most};
+ghost use Rattle.trail.specs.Trail.{room_for};
 ghost use Rattle.ring.specs.Refusals.{found};
 ghost use Rattle.run.specs.Outcome.{heard};
-ghost use Rattle.report.specs.Page.{recordLine, seatLine, section, busLine, printable, ranPage, page_of, result_of};
-ghost use Rattle.report.specs.Promise.{recordMost, pageMost};
-ghost use Rattle.report.specs.Inside.{countMost, seatMost, upToFaults, upToFaultsMost, Writes};
+ghost use Rattle.report.specs.Page.{record_line, seat_line, section, bus_line, printable, ran_page, page_of, result_of};
+ghost use Rattle.report.specs.Promise.{record_most, page_most};
+ghost use Rattle.report.specs.Inside.{count_most, seat_most, up_to_faults, up_to_faults_most, Writes};
 
 use crate::lines;
 use limits::Refusal;
@@ -22,8 +22,8 @@ fn record_section(
     trail: &[u8],
     records: u16,
 ) -> Place
-    requires { records ≤ roomFor (length trail.now) }
-    ensures { Writes (section records (recordLine modules trail.now)) (countMost + recordMost * records) place page.old result page.new }
+    requires { records ≤ room_for (length trail.now) }
+    ensures { Writes (section records (record_line modules trail.now)) (count_most + record_most * records) place page.old result page.new }
 {
     let count = records as usize;
     let mut next = lines::count_line(page, place, records);
@@ -42,8 +42,8 @@ fn seat_section(
     modules: [u16; limits::SEATS_MOST],
     ring: Ring,
 ) -> Place
-    requires { ring.n ≤ seatsMost }
-    ensures { Writes (section ring.n (seatLine modules ring)) (countMost + seatMost * ring.n) place page.old result page.new }
+    requires { ring.n ≤ seats_most }
+    ensures { Writes (section ring.n (seat_line modules ring)) (count_most + seat_most * ring.n) place page.old result page.new }
 {
     let n = ring.n;
     let mut next = lines::count_line(page, place, n as u16);
@@ -58,7 +58,7 @@ fn seat_section(
 // The first two sections, and of the verdict its count and its first line.
 fn up_to_faults(page: &mut [u8], place: Place, ran: Ran, trail: &[u8], bus: Bus) -> Place
     requires { printable (result_of ran trail.now) ≡ true }
-    ensures { Writes (upToFaults (result_of ran trail.now) (busLine (heard bus))) upToFaultsMost place page.old result page.new }
+    ensures { Writes (up_to_faults (result_of ran trail.now) (bus_line (heard bus))) up_to_faults_most place page.old result page.new }
 {
     let modules = ran.modules;
     let ring = ran.ring;
@@ -89,7 +89,7 @@ fn ran_page(
     bus: Bus,
     verdict: Verdict,
 ) -> Place
-    ensures { Writes (ranPage (result_of ran trail.now) (heard bus) (found verdict)) pageMost place page.old result page.new }
+    ensures { Writes (ran_page (result_of ran trail.now) (heard bus) (found verdict)) page_most place page.old result page.new }
 {
     if let Verdict::Refused(why, offence) = verdict {
         return lines::refused_line(page, place, why, offence);
@@ -103,7 +103,7 @@ fn ran_page(
 
 // The whole page of a run.
 pub fn whole_page(page: &mut [u8], place: Place, ran: Ran, trail: &[u8]) -> Place
-    ensures { Writes (page_of (result_of ran trail.now)) pageMost place page.old result page.new }
+    ensures { Writes (page_of (result_of ran trail.now)) page_most place page.old result page.new }
 {
     let answer = ran.answer;
     match answer {

@@ -12,7 +12,7 @@ use Rattle.text.specs.Lent.{Lent, lent}
 use Rattle.text.specs.declared.Place.{Place}
 use Rattle.run.specs.declared.Ran.{Ran}
 use Rattle.report.specs.Page.{page_of, result_of}
-use Rattle.report.specs.Promise.{pageMost, Prints, PrintPromise}
+use Rattle.report.specs.Promise.{page_most, Prints, PrintPromise}
 use Rattle.sheet_page.specs.Promise.{text_of, PagePromise}
 
 -- of `put_byte`, `put_word` and `put_number`
@@ -20,27 +20,27 @@ pub one_written : (p q : Place) (x y : List ℕ) (z : Lent) → lent p x ≡ z �
 one_written p q x y z a b = (ap (λ (l : Lent). l.place) (a ∙ sym b), ap (λ (l : Lent). l.page) (a ∙ sym b))
 
 -- of a text printed
-one-text : (text page : List ℕ) (r s : ℕ) (page' page'' : List ℕ) → Prints text page r page' → Prints text page s page'' → (r ≡ s) × (page' ≡ page'')
-one-text text page r s page' page'' a b = (a.result ∙ sym b.result, a.bytes ∙ sym b.bytes)
+one_text : (text page : List ℕ) (r s : ℕ) (page' page'' : List ℕ) → Prints text page r page' → Prints text page s page'' → (r ≡ s) × (page' ≡ page'')
+one_text text page r s page' page'' a b = (a.result ∙ sym b.result, a.bytes ∙ sym b.bytes)
 
 pub one-print : (ran : Ran) (trail page : List ℕ) (r s : ℕ) (page' page'' : List ℕ) → PrintPromise ran trail page r page' → PrintPromise ran trail page s page''
     → (r ≡ s) × (page' ≡ page'')
-one-print ran trail = one-text (page_of (result_of ran trail))
+one-print ran trail = one_text (page_of (result_of ran trail))
 
 pub one-page : (sheet page : List ℕ) (r s : ℕ) (page' page'' : List ℕ) → PagePromise sheet page r page' → PagePromise sheet page s page'' → (r ≡ s) × (page' ≡ page'')
-one-page sheet = one-text (text_of sheet)
+one-page sheet = one_text (text_of sheet)
 
 -- ---- a buffer that is long enough
 
-whole-text : (text page : List ℕ) (r : ℕ) (page' : List ℕ) → pageMost ≤ length page → Prints text page r page' → (r ≡ length text) × (page' ≡ put page 0 text)
-whole-text text page r page' h a =
+whole_text : (text page : List ℕ) (r : ℕ) (page' : List ℕ) → page_most ≤ length page → Prints text page r page' → (r ≡ length text) × (page' ≡ put page 0 text)
+whole_text text page r page' h a =
     let l : length text ≤ length page = omega (arith, a.short) in
     (a.result ∙ rw (le-leb (length text) (length page) l), a.bytes ∙ ap (put page 0) (take_all (length page) text l))
 
-pub whole-print : (ran : Ran) (trail page : List ℕ) (r : ℕ) (page' : List ℕ) → pageMost ≤ length page → PrintPromise ran trail page r page'
+pub whole-print : (ran : Ran) (trail page : List ℕ) (r : ℕ) (page' : List ℕ) → page_most ≤ length page → PrintPromise ran trail page r page'
     → (r ≡ length (page_of (result_of ran trail))) × (page' ≡ put page 0 (page_of (result_of ran trail)))
-whole-print ran trail = whole-text (page_of (result_of ran trail))
+whole-print ran trail = whole_text (page_of (result_of ran trail))
 
-pub whole-page : (sheet page : List ℕ) (r : ℕ) (page' : List ℕ) → pageMost ≤ length page → PagePromise sheet page r page'
+pub whole-page : (sheet page : List ℕ) (r : ℕ) (page' : List ℕ) → page_most ≤ length page → PagePromise sheet page r page'
     → (r ≡ length (text_of sheet)) × (page' ≡ put page 0 (text_of sheet))
-whole-page sheet = whole-text (text_of sheet)
+whole-page sheet = whole_text (text_of sheet)

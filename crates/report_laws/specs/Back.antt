@@ -3,9 +3,9 @@ use Rattle.std.specs.Prelude.{List, [], ◌∷◌, ℕ, ◌+◌, ◌-◌, ◌*�
 use Rattle.text.specs.Ascii.{digit}
 
 -- digits read from left to right, after those that came to v
-abbrev pub readAfter : ℕ → List ℕ → ℕ
-readAfter v [] = v
-readAfter v (b ∷ more) = readAfter (v * 10 + (b - digit 0)) more
+abbrev pub read_after : ℕ → List ℕ → ℕ
+read_after v [] = v
+read_after v (b ∷ more) = read_after (v * 10 + (b - digit 0)) more
 
-abbrev pub readBack : List ℕ → ℕ
-readBack digits = readAfter 0 digits
+abbrev pub read_back : List ℕ → ℕ
+read_back digits = read_after 0 digits

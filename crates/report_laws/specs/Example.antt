@@ -2,15 +2,15 @@
 use Rattle.std.specs.Prelude.{List, [], ◌∷◌, ◌++◌, ℕ}
 
 -- ring, marks and slots, line by line
-unfoldable pub exampleSheet : List ℕ
-exampleSheet =
+unfoldable pub example_sheet : List ℕ
+example_sheet =
     (52 ∷ 10 ∷ 49 ∷ 49 ∷ 10 ∷ 49 ∷ 50 ∷ 10 ∷ 49 ∷ 51 ∷ 10 ∷ 49 ∷ 52 ∷ 10 ∷ [])
     ++ (49 ∷ 10 ∷ 48 ∷ 32 ∷ 50 ∷ 32 ∷ 82 ∷ 10 ∷ [])
     ++ (52 ∷ 10 ∷ 49 ∷ 10 ∷ 49 ∷ 10 ∷ 45 ∷ 10 ∷ 48 ∷ 10 ∷ [])
 
 -- line by line as document 01 prints it
-unfoldable pub examplePage : List ℕ
-examplePage =
+unfoldable pub example_page : List ℕ
+example_page =
     (53 ∷ 10 ∷ [])
     ++ (48 ∷ 32 ∷ 49 ∷ 51 ∷ 32 ∷ 49 ∷ 49 ∷ 32 ∷ 99 ∷ 10 ∷ [])
     ++ (49 ∷ 32 ∷ 49 ∷ 51 ∷ 32 ∷ 49 ∷ 51 ∷ 32 ∷ 98 ∷ 10 ∷ [])

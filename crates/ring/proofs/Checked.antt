@@ -7,30 +7,30 @@ use native.Mathlib.Nat.{mod-lt}
 use native.Mathlib.Omega.{arith}
 use lib.Dec.{leb, ltb}
 use borrow.Author.Tests.{leb-true, le-leb, lt-ltb, le-ltb, ltb-true, ltb-false, eqb-true, not-true}
-use Rattle.limits.specs.Limits.{seatsStand, seatsLeast, seatsMost, slotsMost}
-use Rattle.lists.proofs.Tests.{both, and-true, and-of, all-at, all_from}
+use Rattle.limits.specs.Limits.{seats_stand, seats_least, seats_most, slots_most}
+use Rattle.lists.proofs.Tests.{both, and-true, and_of, all-at, all_from}
 use Rattle.seats.proofs.Sets.{below-full, full_is}
-use Rattle.seats.specs.Sets.{fullSet}
-use Rattle.ring.specs.Ring.{seatOf, ownerOf, noSeat, memberStands, absentStands, seatStands, everySeatStands, is_ring}
+use Rattle.seats.specs.Sets.{full_set}
+use Rattle.ring.specs.Ring.{seat_of, owner_of, no_seat, member_stands, absent_stands, seat_stands, every_seat_stands, is_ring}
 use Rattle.ring.specs.declared.Ring.{Ring}
 use Rattle.turn.specs.declared.Seat.{Seat}
 pub use Rattle.ring.specs.Valid.{Member, Valid}
 
 -- ---- one seat
 
-pub member_of : (n time : ℕ) (s : Seat) → n ≤ seatsMost → memberStands n time s ≡ true → Member n time s
+pub member_of : (n time : ℕ) (s : Seat) → n ≤ seats_most → member_stands n time s ≡ true → Member n time s
 member_of n time s h e =
     let a = and-true _ _ e in
     record { inside = below-full s.set n h (leb-true _ _ a.0); past = leb-true _ _ a.1 }
 
-pub member-stands : (n time : ℕ) (s : Seat) → n ≤ seatsMost → Member n time s → memberStands n time s ≡ true
+pub member-stands : (n time : ℕ) (s : Seat) → n ≤ seats_most → Member n time s → member_stands n time s ≡ true
 member-stands n time s h m =
     let f = full_is n h in
     let l = m.inside in
-    and-of (le-leb s.set (fullSet n) (omega arith)) (le-leb _ _ m.past)
+    and_of (le-leb s.set (full_set n) (omega arith)) (le-leb _ _ m.past)
 
-pub absent-of : (s : Seat) → absentStands s ≡ true → s ≡ noSeat
-absent-of s e =
+pub absent_of : (s : Seat) → absent_stands s ≡ true → s ≡ no_seat
+absent_of s e =
     let a = and-true _ _ e in
     let b = and-true _ _ a.0 in
     let c = and-true _ _ b.0 in
@@ -40,60 +40,60 @@ absent-of s e =
     let l = eqb-true _ _ a.1 in
     λ x. record { set = i x; ack = j x; doubt = k x; fault = l x }
 
-pub absent-stands : (s : Seat) → s ≡ noSeat → absentStands s ≡ true
-absent-stands s e = ap absentStands e
+pub absent-stands : (s : Seat) → s ≡ no_seat → absent_stands s ≡ true
+absent-stands s e = ap absent_stands e
 
 -- ---- the ring
 
-every-at : (r : Ring) (p : ℕ) → everySeatStands r ≡ true → p < seatsMost → seatStands r.n r.time p (seatOf r p) ≡ true
-unfolding everySeatStands
-every-at r p e l = all-at (λ q. seatStands r.n r.time q (seatOf r q)) seatsMost p e l
+every_at : (r : Ring) (p : ℕ) → every_seat_stands r ≡ true → p < seats_most → seat_stands r.n r.time p (seat_of r p) ≡ true
+unfolding every_seat_stands
+every_at r p e l = all-at (λ q. seat_stands r.n r.time q (seat_of r q)) seats_most p e l
 
-every-from : (r : Ring) → ((p : ℕ) → p < seatsMost → seatStands r.n r.time p (seatOf r p) ≡ true) → everySeatStands r ≡ true
-unfolding everySeatStands
-every-from r h = all_from (λ q. seatStands r.n r.time q (seatOf r q)) seatsMost h
+every_from : (r : Ring) → ((p : ℕ) → p < seats_most → seat_stands r.n r.time p (seat_of r p) ≡ true) → every_seat_stands r ≡ true
+unfolding every_seat_stands
+every_from r h = all_from (λ q. seat_stands r.n r.time q (seat_of r q)) seats_most h
 
 pub ring-valid : (r : Ring) (room : ℕ) → is_ring r room ≡ true → Valid r room
 unfolding is_ring
 ring-valid r room e =
-    let a = and-true (seatsStand r.n && leb r.time slotsMost && leb r.records room) (everySeatStands r) e in
-    let b = and-true (seatsStand r.n && leb r.time slotsMost) (leb r.records room) a.0 in
-    let c = and-true (seatsStand r.n) (leb r.time slotsMost) b.0 in
-    let d = and-true (leb seatsLeast r.n) (leb r.n seatsMost) c.0 in
-    let most = leb-true r.n seatsMost d.1 in
+    let a = and-true (seats_stand r.n && leb r.time slots_most && leb r.records room) (every_seat_stands r) e in
+    let b = and-true (seats_stand r.n && leb r.time slots_most) (leb r.records room) a.0 in
+    let c = and-true (seats_stand r.n) (leb r.time slots_most) b.0 in
+    let d = and-true (leb seats_least r.n) (leb r.n seats_most) c.0 in
+    let most = leb-true r.n seats_most d.1 in
     record {
       least = leb-true _ _ d.0;
       most = most;
       soon = leb-true _ _ c.1;
       fits = leb-true _ _ b.1;
       member = λ p l.
-          let s = every-at r p a.1 (omega arith) in
-          member_of r.n r.time (seatOf r p) most (rw (lt-ltb p r.n l) at s);
+          let s = every_at r p a.1 (omega arith) in
+          member_of r.n r.time (seat_of r p) most (rw (lt-ltb p r.n l) at s);
       absent = λ p l m.
-          let s = every-at r p a.1 m in
-          absent-of (seatOf r p) (rw (le-ltb p r.n l) at s);
+          let s = every_at r p a.1 m in
+          absent_of (seat_of r p) (rw (le-ltb p r.n l) at s);
     }
 
 pub valid-ring : (r : Ring) (room : ℕ) → Valid r room → is_ring r room ≡ true
 unfolding is_ring
 valid-ring r room v =
-    and-of
-    (and-of (and-of (and-of (le-leb _ _ v.least) (le-leb _ _ v.most)) (le-leb _ _ v.soon)) (le-leb _ _ v.fits))
-    (every-from r (λ p l.
+    and_of
+    (and_of (and_of (and_of (le-leb _ _ v.least) (le-leb _ _ v.most)) (le-leb _ _ v.soon)) (le-leb _ _ v.fits))
+    (every_from r (λ p l.
     ⊎_elim
-    (λ t. rw t (member-stands r.n r.time (seatOf r p) v.most (v.member p (ltb-true _ _ t))))
-    (λ f. rw f (absent-stands (seatOf r p) (v.absent p (ltb-false _ _ f) l)))
+    (λ t. rw t (member-stands r.n r.time (seat_of r p) v.most (v.member p (ltb-true _ _ t))))
+    (λ f. rw f (absent-stands (seat_of r p) (v.absent p (ltb-false _ _ f) l)))
     (both (ltb p r.n))))
 
 -- with more room it is still one
-pub valid-wider : (r : Ring) {room wide : ℕ} → room ≤ wide → Valid r room → Valid r wide
-valid-wider r h v = record { least = v.least; most = v.most; soon = v.soon; fits = omega (arith, v.fits); member = v.member; absent = v.absent }
+pub valid_wider : (r : Ring) {room wide : ℕ} → room ≤ wide → Valid r room → Valid r wide
+valid_wider r h v = record { least = v.least; most = v.most; soon = v.soon; fits = omega (arith, v.fits); member = v.member; absent = v.absent }
 
 -- ---- the owner of the slot
 
-pub owner-below : (r : Ring) (room : ℕ) → Valid r room → ownerOf r < r.n
+pub owner-below : (r : Ring) (room : ℕ) → Valid r room → owner_of r < r.n
 owner-below r room v = let l = v.least in mod-lt r.time (omega arith)
 
 -- n is a number of seats
-pub seats-stand : (r : Ring) (room : ℕ) → Valid r room → seatsStand r.n ≡ true
-seats-stand r room v = and-of (le-leb _ _ v.least) (le-leb _ _ v.most)
+pub seats_stand_lem : (r : Ring) (room : ℕ) → Valid r room → seats_stand r.n ≡ true
+seats_stand_lem r room v = and_of (le-leb _ _ v.least) (le-leb _ _ v.most)

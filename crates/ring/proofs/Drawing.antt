@@ -9,8 +9,8 @@ use Rattle.turn.specs.declared.Seat.{Seat}
 use Rattle.turn.specs.declared.Slot.{Slot}
 use Rattle.turn.proofs.GoneLaws.{count-is, count-few}
 use Rattle.lists.specs.Counted.{sum}
-use Rattle.ring.specs.Ring.{seatOf, drawnTo}
-use Rattle.ring.specs.Step.{turnAt, countAt}
+use Rattle.ring.specs.Ring.{seat_of, drawn_to}
+use Rattle.ring.specs.Step.{turn_at, count_at}
 use Rattle.ring.specs.declared.Ring.{Ring}
 
 -- each of the ring's arrays has room for seat p
@@ -33,13 +33,13 @@ stored r p s = record {
 }
 
 -- one more seat is drawn
-pub drawn-next : (r : Ring) (seat : ℕ → Seat) (p : ℕ) → Wide r p → stored (drawnTo p r seat) p (seat p) ≡ drawnTo (p + 1) r seat
-drawn-next r seat p w =
+pub drawn_next : (r : Ring) (seat : ℕ → Seat) (p : ℕ) → Wide r p → stored (drawn_to p r seat) p (seat p) ≡ drawn_to (p + 1) r seat
+drawn_next r seat p w =
     rw (draw-next p (λ q. (seat q).set) r.sets w.sets, draw-next p (λ q. (seat q).ack) r.acks w.acks, draw-next p (λ q. (seat q).doubt) r.doubts w.doubts, draw-next p (λ q. (seat q).fault) r.faults w.faults)
 
 -- a seat that keeps all is drawn already
-pub drawn-still : (r : Ring) (seat : ℕ → Seat) (p : ℕ) → Wide r p → seat p ≡ seatOf r p → drawnTo p r seat ≡ drawnTo (p + 1) r seat
-drawn-still r seat p w e = λ i. record {
+pub drawn_still : (r : Ring) (seat : ℕ → Seat) (p : ℕ) → Wide r p → seat p ≡ seat_of r p → drawn_to p r seat ≡ drawn_to (p + 1) r seat
+drawn_still r seat p w e = λ i. record {
   sets = draw-same p (λ q. (seat q).set) r.sets 0 w.sets (λ j. (e j).set) i;
   acks = draw-same p (λ q. (seat q).ack) r.acks false w.acks (λ j. (e j).ack) i;
   doubts = draw-same p (λ q. (seat q).doubt) r.doubts false w.doubts (λ j. (e j).doubt) i;
@@ -50,6 +50,6 @@ drawn-still r seat p w e = λ i. record {
 }
 
 -- the turns of k seats take at most twice as many
-pub counts-few : (r : Ring) (c : Slot) (k : ℕ) → sum k (countAt r c) ≤ 2 * k
+pub counts-few : (r : Ring) (c : Slot) (k : ℕ) → sum k (count_at r c) ≤ 2 * k
 counts-few r c k =
-    sum-at-most (countAt r c) 2 k (λ p l. let e = count-is p c.owner (turnAt r c p).removal in let f = count-few (turnAt r c p).removal in omega arith)
+    sum-at-most (count_at r c) 2 k (λ p l. let e = count-is p c.owner (turn_at r c p).removal in let f = count-few (turn_at r c p).removal in omega arith)

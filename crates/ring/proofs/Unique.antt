@@ -4,9 +4,9 @@ use mathlib.Core.Bool.{Bool}
 use mathlib.Core.List.{List}
 use Prim.Native.Nat.{ℕ}
 use native.Mathlib.Omega.{arith}
-use Rattle.limits.proofs.Refusals.{one-reason}
+use Rattle.limits.proofs.Refusals.{one_reason}
 use Rattle.limits.specs.Refusals.{number_of}
-use Rattle.ring.specs.Refusals.{stepTells, found}
+use Rattle.ring.specs.Refusals.{step_tells, found}
 use Rattle.ring.specs.Promise.{ZeroPromise, FreshPromise, StepPromise, VerdictPromise}
 use Rattle.ring.specs.declared.Ring.{Ring}
 use Rattle.ring.specs.declared.Stepped.{Stepped}
@@ -18,14 +18,14 @@ use Rattle.ring.specs.declared.Verdict.TheVariants as verdicts
 
 -- ---- answers that say the same are the same
 
-one_answer : (a b : StepAnswer) → stepTells a ≡ stepTells b → a ≡ b
+one_answer : (a b : StepAnswer) → step_tells a ≡ step_tells b → a ≡ b
 one_answer answers.Taken answers.Taken e = refl
 one_answer answers.Taken (answers.Refused y q) e = let z : ◌≡◌ {A = ℕ} 0 1 = cc in absurd (omega arith)
 one_answer (answers.Refused x p) answers.Taken e = let z : ◌≡◌ {A = ℕ} 0 1 = cc in absurd (omega arith)
 one_answer (answers.Refused x p) (answers.Refused y q) e =
     let k : number_of x ≡ number_of y = cc in
     let m : p ≡ q = cc in
-    ap₂ answers.Refused (one-reason x y k) m
+    ap₂ answers.Refused (one_reason x y k) m
 
 pub one-verdict : (a b : Verdict) → found a ≡ found b → a ≡ b
 one-verdict verdicts.Within verdicts.Within e = refl
@@ -39,7 +39,7 @@ one-verdict (verdicts.Refused x p) (verdicts.Outside t) e = let z : ◌≡◌ {A
 one-verdict (verdicts.Refused x p) (verdicts.Refused y q) e =
     let k : number_of x ≡ number_of y = cc in
     let m : p ≡ q = cc in
-    ap₂ verdicts.Refused (one-reason x y k) m
+    ap₂ verdicts.Refused (one_reason x y k) m
 
 -- ---- the promises
 

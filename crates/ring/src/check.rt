@@ -1,14 +1,14 @@
 // What is a ring, and which receive marks stand: the checks that come before a step.
 ghost use Rattle.std.specs.Prelude.{◌≡◌};
-ghost use Rattle.ring.specs.Ring.{memberStands, absentStands, seatStands, everySeatStands, is_ring};
-ghost use Rattle.ring.specs.Refusals.{marksStand};
+ghost use Rattle.ring.specs.Ring.{member_stands, absent_stands, seat_stands, every_seat_stands, is_ring};
+ghost use Rattle.ring.specs.Refusals.{marks_stand};
 
 use crate::Ring;
 use turn::{Seat, Slot};
 
 // A seat that the ring has.
 fn member_stands(s: Seat, n: usize, time: u16) -> bool
-    ensures { result ≡ memberStands n time s }
+    ensures { result ≡ member_stands n time s }
 {
     if seats::within(s.set, n) {
         return s.fault <= time;
@@ -18,7 +18,7 @@ fn member_stands(s: Seat, n: usize, time: u16) -> bool
 
 // A seat that the ring does not have.
 fn absent_stands(s: Seat) -> bool
-    ensures { result ≡ absentStands s }
+    ensures { result ≡ absent_stands s }
 {
     if s.set != 0 {
         return false;
@@ -33,7 +33,7 @@ fn absent_stands(s: Seat) -> bool
 }
 
 fn seat_stands(s: Seat, p: usize, n: usize, time: u16) -> bool
-    ensures { result ≡ seatStands n time p s }
+    ensures { result ≡ seat_stands n time p s }
 {
     if p < n {
         return member_stands(s, n, time);
@@ -43,7 +43,7 @@ fn seat_stands(s: Seat, p: usize, n: usize, time: u16) -> bool
 
 // All 32 are looked at, since a seat that the ring does not have must be empty.
 fn every_seat_stands(ring: Ring) -> bool
-    ensures { result ≡ everySeatStands ring }
+    ensures { result ≡ every_seat_stands ring }
 {
     let n = ring.n;
     let time = ring.time;
@@ -92,7 +92,7 @@ pub fn is_ring(ring: Ring, room: usize) -> bool
 
 // No receive mark for the owner or for no seat.
 pub fn marks_stand(slot: Slot, n: usize) -> bool
-    ensures { result ≡ marksStand n slot }
+    ensures { result ≡ marks_stand n slot }
 {
     if seats::within(slot.receive, n) {
         return !seats::has(slot.receive, slot.owner);

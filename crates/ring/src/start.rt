@@ -1,12 +1,12 @@
 // The rings that a run starts from: the zero ring and a fresh one.
 ghost use Rattle.std.specs.Prelude.{◌≡◌, ◌≤◌};
-ghost use Rattle.limits.specs.Limits.{seatsMost};
-ghost use Rattle.ring.specs.Ring.{zeroRing, freshRing};
+ghost use Rattle.limits.specs.Limits.{seats_most};
+ghost use Rattle.ring.specs.Ring.{zero_ring, fresh_ring};
 
 use crate::Ring;
 
 pub fn zero_ring() -> Ring
-    ensures { result ≡ zeroRing }
+    ensures { result ≡ zero_ring }
 {
     Ring {
         sets: [0; limits::SEATS_MOST],
@@ -21,8 +21,8 @@ pub fn zero_ring() -> Ring
 
 // Every seat in every set of the n seats, and every acknowledgement true.
 pub fn fresh_ring(n: usize) -> Ring
-    requires { n ≤ seatsMost }
-    ensures { result ≡ freshRing n }
+    requires { n ≤ seats_most }
+    ensures { result ≡ fresh_ring n }
 {
     let full = seats::full(n);
     let mut ring = zero_ring();

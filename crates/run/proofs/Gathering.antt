@@ -10,21 +10,21 @@ use lib.Dec.{leb, ltb, eqb}
 use lib.Bits.{bit_or, or_lt}
 use lib.Pow.{pow_pos}
 use borrow.Author.Tests.{ltb-true, eqb-true, eqb-false, eq-eqb, ne_eqb, le-leb, lt-leb}
-use Rattle.lists.specs.Counted.{anyBelow}
+use Rattle.lists.specs.Counted.{any_below}
 use Rattle.lists.proofs.Counted.{rising}
-use Rattle.lists.proofs.Tests.{both, and-true, eqb-sym}
-use Rattle.lists.proofs.Any.{any-more, any_same, any_none, any-up-to, any-or}
-use Rattle.seats.specs.Sets.{hasSeat}
-use Rattle.seats.specs.Joined.{added, seatsWith}
-use Rattle.seats.proofs.Sets.{nobody-in, same-sets, without-le, without-has}
-use Rattle.seats.proofs.Joined.{has-or, has-added, added-below, with-below, has-with}
+use Rattle.lists.proofs.Tests.{both, and-true, eqb_sym}
+use Rattle.lists.proofs.Any.{any_more, any_same, any_none, any_up_to, any_or}
+use Rattle.seats.specs.Sets.{has_seat}
+use Rattle.seats.specs.Joined.{added, seats_with}
+use Rattle.seats.proofs.Sets.{nobody_in, same-sets, without_le, without-has}
+use Rattle.seats.proofs.Joined.{has-or, has-added, added-below, with_below, has_with}
 use Rattle.sheet_lines.specs.Bytes.{send, receive, dark}
 use Rattle.sheet.specs.Marks.{above}
 use Rattle.sheet.specs.Good.{mark_of, GoodSheet}
 use Rattle.sheet.specs.declared.Mark.{Mark}
 use Rattle.sheet.specs.declared.Sheet.{Sheet}
-use Rattle.run.specs.Marks.{says, darkens, ownerAt, receiveMark, marksAt}
-use Rattle.run.specs.Inside.{noneGathered, withMark, slotOver, givenBy}
+use Rattle.run.specs.Marks.{says, darkens, owner_at, receive_mark, marks_at}
+use Rattle.run.specs.Inside.{none_gathered, with_mark, slot_over, given_by}
 use Rattle.run.specs.declared.marks.Gathered.{Gathered}
 
 -- ---- the marks ascend
@@ -49,9 +49,9 @@ pub record Gathers (sheet : Sheet) (t : ℕ) (g : Gathered) : Type 0 where
   pub few : g.next ≤ sheet.mark_count
   pub past : (i : ℕ) → i < g.next → (mark_of sheet i).time ≤ t
   pub left : (i : ℕ) → g.next ≤ i → i < sheet.mark_count → t ≤ (mark_of sheet i).time
-  pub sends : (p : ℕ) → hasSeat g.send p ≡ anyBelow g.next (λ i. says send t p (mark_of sheet i))
-  pub receives : (p : ℕ) → hasSeat g.receive p ≡ anyBelow g.next (λ i. says receive t p (mark_of sheet i))
-  pub darks : (p : ℕ) → hasSeat g.dark p ≡ anyBelow g.next (λ i. darkens t p (mark_of sheet i))
+  pub sends : (p : ℕ) → has_seat g.send p ≡ any_below g.next (λ i. says send t p (mark_of sheet i))
+  pub receives : (p : ℕ) → has_seat g.receive p ≡ any_below g.next (λ i. says receive t p (mark_of sheet i))
+  pub darks : (p : ℕ) → has_seat g.dark p ≡ any_below g.next (λ i. darkens t p (mark_of sheet i))
   pub receive_inside : g.receive < 2 ^ sheet.n
   pub dark-inside : g.dark < 2 ^ sheet.n
 
@@ -59,28 +59,28 @@ pub record Gathers (sheet : Sheet) (t : ℕ) (g : Gathered) : Type 0 where
 abbrev pub Whole : Sheet → ℕ → Gathered → Type 0
 Whole sheet t g = (i : ℕ) → g.next ≤ i → i < sheet.mark_count → t < (mark_of sheet i).time
 
-pub none_yet : (sheet : Sheet) → Gathers sheet 0 noneGathered
+pub none_yet : (sheet : Sheet) → Gathers sheet 0 none_gathered
 none_yet sheet =
     let z = pow_pos sheet.n in
     record {
       few = omega arith;
       past = λ i l. absurd (omega arith);
       left = λ i l h. omega arith;
-      sends = nobody-in;
-      receives = nobody-in;
-      darks = nobody-in;
+      sends = nobody_in;
+      receives = nobody_in;
+      darks = nobody_in;
       receive_inside = z;
       dark-inside = z;
     }
 
 -- a mark adds its seat to the set of its kind
-adds : (set next seat : ℕ) (marked : Bool) (p : ℕ) (test : ℕ → Bool) → hasSeat set p ≡ anyBelow next test → test next ≡ (marked && eqb seat p)
-    → hasSeat (added set seat marked) p ≡ anyBelow (next + 1) test
+adds : (set next seat : ℕ) (marked : Bool) (p : ℕ) (test : ℕ → Bool) → has_seat set p ≡ any_below next test → test next ≡ (marked && eqb seat p)
+    → has_seat (added set seat marked) p ≡ any_below (next + 1) test
 adds set next seat marked p test h e =
-    has-added set seat marked p ∙ ap₂ (λ (a b : Bool). a || b) h (ap (λ (b : Bool). marked && b) (eqb-sym p seat) ∙ sym e) ∙ sym (any-more test next)
+    has-added set seat marked p ∙ ap₂ (λ (a b : Bool). a || b) h (ap (λ (b : Bool). marked && b) (eqb_sym p seat) ∙ sym e) ∙ sym (any_more test next)
 
 module _ (sheet : Sheet) (good : GoodSheet sheet) (t : ℕ) (g : Gathered) (so : Gathers sheet t g) where
-  pub mark-more : g.next < sheet.mark_count → (mark_of sheet g.next).time ≡ t → Gathers sheet t (withMark g (mark_of sheet g.next))
+  pub mark-more : g.next < sheet.mark_count → (mark_of sheet g.next).time ≡ t → Gathers sheet t (with_mark g (mark_of sheet g.next))
   mark-more l e =
       let m = mark_of sheet g.next in
       let now : eqb m.time t ≡ true = eq-eqb m.time t e in
@@ -98,9 +98,9 @@ module _ (sheet : Sheet) (good : GoodSheet sheet) (t : ℕ) (g : Gathered) (so :
       }
 
   -- the next mark is at another time, or there is none
-  pub all-gathered : (sheet.mark_count ≤ g.next) ⊎ ((mark_of sheet g.next).time ≡ t → ⊥) → Whole sheet t g
-  all-gathered (inl a) i l h = absurd (omega arith)
-  all-gathered (inr n) i l h =
+  pub all_gathered : (sheet.mark_count ≤ g.next) ⊎ ((mark_of sheet g.next).time ≡ t → ⊥) → Whole sheet t g
+  all_gathered (inl a) i l h = absurd (omega arith)
+  all_gathered (inr n) i l h =
       let a = so.left g.next (le_refl g.next) (omega arith) in
       let b = later-mark sheet good g.next i l h in
       ⊎_elim (λ e. absurd (n (eqb-true _ _ e))) (λ e. let x = eqb-false (mark_of sheet g.next).time t e in omega arith) (both (eqb (mark_of sheet g.next).time t))
@@ -116,13 +116,13 @@ module _ (sheet : Sheet) (good : GoodSheet sheet) (t : ℕ) (g : Gathered) (so :
         let h = so.past i l in
         rw (le-leb (mark_of sheet i).time t h, le-leb (mark_of sheet i).time (t + 1) (omega arith))
 
-    pub next-slot : Gathers sheet (t + 1) (slotOver g)
+    pub next-slot : Gathers sheet (t + 1) (slot_over g)
     next-slot = record {
       few = so.few;
       past = λ i l. let h = so.past i l in omega arith;
       left = λ i l h. let x = whole i l h in omega arith;
-      sends = λ p. nobody-in p ∙ sym (any_none (λ i. says send (t + 1) p (mark_of sheet i)) g.next (not_yet send p));
-      receives = λ p. nobody-in p ∙ sym (any_none (λ i. says receive (t + 1) p (mark_of sheet i)) g.next (not_yet receive p));
+      sends = λ p. nobody_in p ∙ sym (any_none (λ i. says send (t + 1) p (mark_of sheet i)) g.next (not_yet send p));
+      receives = λ p. nobody_in p ∙ sym (any_none (λ i. says receive (t + 1) p (mark_of sheet i)) g.next (not_yet receive p));
       darks = λ p. so.darks p ∙ any_same (λ i. darkens t p (mark_of sheet i)) (λ i. darkens (t + 1) p (mark_of sheet i)) g.next (still-dark p);
       receive_inside = pow_pos sheet.n;
       dark-inside = so.dark-inside;
@@ -135,30 +135,30 @@ module _ (sheet : Sheet) (good : GoodSheet sheet) (t : ℕ) (g : Gathered) (so :
         rw (ne_eqb (mark_of sheet i).time t (omega arith), lt-leb (mark_of sheet i).time t x)
 
     -- so the sets have whoever has such a mark
-    has-mark : (set kind p : ℕ) → hasSeat set p ≡ anyBelow g.next (λ i. says kind t p (mark_of sheet i))
-        → hasSeat (bit_or set g.dark) p ≡ anyBelow sheet.mark_count (λ i. says kind t p (mark_of sheet i) || darkens t p (mark_of sheet i))
+    has-mark : (set kind p : ℕ) → has_seat set p ≡ any_below g.next (λ i. says kind t p (mark_of sheet i))
+        → has_seat (bit_or set g.dark) p ≡ any_below sheet.mark_count (λ i. says kind t p (mark_of sheet i) || darkens t p (mark_of sheet i))
     has-mark set kind p e =
         has-or set g.dark p
         ∙ ap₂ (λ (a b : Bool). a || b) e (so.darks p)
-        ∙ sym (any-or (λ i. says kind t p (mark_of sheet i)) (λ i. darkens t p (mark_of sheet i)) g.next)
-        ∙ sym (any-up-to (λ i. says kind t p (mark_of sheet i) || darkens t p (mark_of sheet i)) g.next sheet.mark_count so.few (not_after kind p))
+        ∙ sym (any_or (λ i. says kind t p (mark_of sheet i)) (λ i. darkens t p (mark_of sheet i)) g.next)
+        ∙ sym (any_up_to (λ i. says kind t p (mark_of sheet i) || darkens t p (mark_of sheet i)) g.next sheet.mark_count so.few (not_after kind p))
 
-    pub send-given : (givenBy g (ownerAt sheet t)).send ≡ (marksAt sheet t).send
-    unfolding marksAt
-    send-given = has-mark g.send send (ownerAt sheet t) (so.sends (ownerAt sheet t))
+    pub send-given : (given_by g (owner_at sheet t)).send ≡ (marks_at sheet t).send
+    unfolding marks_at
+    send-given = has-mark g.send send (owner_at sheet t) (so.sends (owner_at sheet t))
 
-    has-receive : (p : ℕ) → hasSeat (givenBy g (ownerAt sheet t)).receive p ≡ receiveMark sheet t p
+    has-receive : (p : ℕ) → has_seat (given_by g (owner_at sheet t)).receive p ≡ receive_mark sheet t p
     has-receive p =
-        let b = ownerAt sheet t in
+        let b = owner_at sheet t in
         let s = bit_or g.receive g.dark in
-        without-has s b p ∙ and_comm (hasSeat s p) (not (eqb p b))
+        without-has s b p ∙ and_comm (has_seat s p) (not (eqb p b))
         ∙ ap (λ (x : Bool). not (eqb p b) && x) (has-mark g.receive receive p (so.receives p))
 
-    pub receive-given : (givenBy g (ownerAt sheet t)).receive ≡ (marksAt sheet t).receive
-    unfolding marksAt
+    pub receive-given : (given_by g (owner_at sheet t)).receive ≡ (marks_at sheet t).receive
+    unfolding marks_at
     receive-given =
         let s = bit_or g.receive g.dark in
-        same-sets sheet.n (givenBy g (ownerAt sheet t)).receive (seatsWith sheet.n (receiveMark sheet t))
-        (let a = or_lt sheet.n g.receive g.dark so.receive_inside so.dark-inside in let b = without-le s (ownerAt sheet t) in omega arith)
-        (with-below (receiveMark sheet t) sheet.n)
-        (λ p l. has-receive p ∙ sym (has-with (receiveMark sheet t) sheet.n p l))
+        same-sets sheet.n (given_by g (owner_at sheet t)).receive (seats_with sheet.n (receive_mark sheet t))
+        (let a = or_lt sheet.n g.receive g.dark so.receive_inside so.dark-inside in let b = without_le s (owner_at sheet t) in omega arith)
+        (with_below (receive_mark sheet t) sheet.n)
+        (λ p l. has-receive p ∙ sym (has_with (receive_mark sheet t) sheet.n p l))

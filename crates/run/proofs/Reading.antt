@@ -5,30 +5,30 @@ use mathlib.Core.Logic.{◌⊎◌, inl, inr}
 use Prim.Native.Nat.{ℕ}
 use Rattle.limits.specs.Refusals.{number_of}
 use Rattle.limits.specs.declared.Refusal.{Refusal}
-use Rattle.ring.specs.Ring.{zeroRing}
+use Rattle.ring.specs.Ring.{zero_ring}
 use Rattle.ring.specs.declared.Ring.{Ring}
 use Rattle.limits.proofs.Refusals.{not_done}
 use Rattle.sheet_lines.specs.Found.{Found, found, offence}
 use Rattle.sheet.specs.Good.{GoodSheet}
-use Rattle.sheet.specs.Sheets.{noSheet, sheetIn, readTells, readTold, sheetOf, ReadPromise}
+use Rattle.sheet.specs.Sheets.{no_sheet, sheet_in, read_tells, read_told, sheet_of, ReadPromise}
 use Rattle.sheet.specs.declared.Sheet.{Sheet}
 use Rattle.sheet.specs.declared.Reading.{Reading}
 use Rattle.sheet.specs.declared.ReadAnswer.TheVariants.{Read, Refused}
 use Rattle.sheet.proofs.Good.{read-good}
 use Rattle.run.specs.Outcome.{refused, Result}
-use Rattle.run.specs.Run.{ends, runSheet, run_of, RunPromise}
+use Rattle.run.specs.Run.{ends, run_sheet, run_of, RunPromise}
 use Rattle.run.specs.Inside.{Ended, Leaves}
 use Rattle.run.specs.declared.Ran.{Ran}
 use Rattle.run.proofs.Running.{bench, leaves}
 
 -- ---- the run by what the bytes are read as
 
-pub run-read : (bytes t : List ℕ) {sheet : Sheet} {end : ℕ} → sheetIn bytes ≡ found sheet end → run_of bytes t ≡ runSheet sheet t
+pub run-read : (bytes t : List ℕ) {sheet : Sheet} {end : ℕ} → sheet_in bytes ≡ found sheet end → run_of bytes t ≡ run_sheet sheet t
 unfolding run_of
 run-read bytes t e = rw e
 
-pub run-offence : (bytes t : List ℕ) {why : Refusal} {place : ℕ} → sheetIn bytes ≡ offence why place
-    → run_of bytes t ≡ ends noSheet (bench zeroRing t) (refused (number_of why) place)
+pub run-offence : (bytes t : List ℕ) {why : Refusal} {place : ℕ} → sheet_in bytes ≡ offence why place
+    → run_of bytes t ≡ ends no_sheet (bench zero_ring t) (refused (number_of why) place)
 unfolding run_of
 run-offence bytes t e = rw e
 
@@ -36,38 +36,38 @@ pub keeps : (bytes t : List ℕ) (x : Ran) (t' : List ℕ) → Leaves (run_of by
 keeps bytes t x t' l = record { answer = l.answer; ring = l.ring; modules = l.modules; trail = l.trail }
 
 -- the bytes are read as a good sheet, or refused
-pub read_is : (bytes : List ℕ) → ((sheet : Sheet) × GoodSheet sheet × ((t : List ℕ) → run_of bytes t ≡ runSheet sheet t))
-    ⊎ ((why : Refusal) × (place : ℕ) × (sheetIn bytes ≡ offence why place))
-read_is bytes = go (sheetIn bytes) refl
+pub read_is : (bytes : List ℕ) → ((sheet : Sheet) × GoodSheet sheet × ((t : List ℕ) → run_of bytes t ≡ run_sheet sheet t))
+    ⊎ ((why : Refusal) × (place : ℕ) × (sheet_in bytes ≡ offence why place))
+read_is bytes = go (sheet_in bytes) refl
   where
-    go : (f : Found Sheet) → sheetIn bytes ≡ f
-        → ((sheet : Sheet) × GoodSheet sheet × ((t : List ℕ) → run_of bytes t ≡ runSheet sheet t)) ⊎ ((why : Refusal) × (place : ℕ) × (sheetIn bytes ≡ offence why place))
+    go : (f : Found Sheet) → sheet_in bytes ≡ f
+        → ((sheet : Sheet) × GoodSheet sheet × ((t : List ℕ) → run_of bytes t ≡ run_sheet sheet t)) ⊎ ((why : Refusal) × (place : ℕ) × (sheet_in bytes ≡ offence why place))
     go (found sheet end) e = inl (sheet, read-good bytes sheet end e, λ t. run-read bytes t e)
     go (offence why place) e = inr (why, place, e)
 
 -- ---- by the reader's answer
 
 module _ (bytes : List ℕ) (r : Reading) (p : ReadPromise bytes r) where
-  read_found : r.answer ≡ Read → (end : ℕ) × (sheetIn bytes ≡ found r.sheet end)
-  read_found e = go (sheetIn bytes) refl p.answer p.sheet
+  read_found : r.answer ≡ Read → (end : ℕ) × (sheet_in bytes ≡ found r.sheet end)
+  read_found e = go (sheet_in bytes) refl p.answer p.sheet
     where
-      go : (f : Found Sheet) → sheetIn bytes ≡ f → readTells r.answer ≡ readTold f → r.sheet ≡ sheetOf f → (end : ℕ) × (sheetIn bytes ≡ found r.sheet end)
+      go : (f : Found Sheet) → sheet_in bytes ≡ f → read_tells r.answer ≡ read_told f → r.sheet ≡ sheet_of f → (end : ℕ) × (sheet_in bytes ≡ found r.sheet end)
       go (found sheet end) q a s = (end, q ∙ ap (λ (x : Sheet). found x end) (sym s))
-      go (offence why place) q a s = not_done (sym a ∙ ap readTells e)
+      go (offence why place) q a s = not_done (sym a ∙ ap read_tells e)
 
   -- a sheet that is read is run
-  pub keeps-read : (t : List ℕ) (x : Ran) (t' : List ℕ) → r.answer ≡ Read → Leaves (runSheet r.sheet t) x t' → RunPromise bytes t x t'
+  pub keeps-read : (t : List ℕ) (x : Ran) (t' : List ℕ) → r.answer ≡ Read → Leaves (run_sheet r.sheet t) x t' → RunPromise bytes t x t'
   keeps-read t x t' e l = keeps bytes t x t' (subst (λ (y : Result). Leaves y x t') (sym (run-read bytes t (read_found e).1)) l)
 
   -- a refused one is not
-  pub keeps-refused : (t : List ℕ) (why : Refusal) (place : ℕ) (ring : Ring) (x : Ran) → r.answer ≡ Refused why place → ring ≡ zeroRing
+  pub keeps-refused : (t : List ℕ) (why : Refusal) (place : ℕ) (ring : Ring) (x : Ran) → r.answer ≡ Refused why place → ring ≡ zero_ring
       → Ended (refused (number_of why) place) ring r.sheet.modules x → RunPromise bytes t x t
-  keeps-refused t why place ring x e z l = go (sheetIn bytes) refl (sym (ap readTells e) ∙ p.answer) p.sheet
+  keeps-refused t why place ring x e z l = go (sheet_in bytes) refl (sym (ap read_tells e) ∙ p.answer) p.sheet
     where
-      go : (f : Found Sheet) → sheetIn bytes ≡ f → readTells (Refused why place) ≡ readTold f → r.sheet ≡ sheetOf f → RunPromise bytes t x t
+      go : (f : Found Sheet) → sheet_in bytes ≡ f → read_tells (Refused why place) ≡ read_told f → r.sheet ≡ sheet_of f → RunPromise bytes t x t
       go (found sheet end) q a s = not_done a
       go (offence why' place') q a s =
           let n : number_of why ≡ number_of why' = cc in
           let m : place ≡ place' = cc in
-          let o : Ended (refused (number_of why') place') zeroRing noSheet.modules x = record { answer = l.answer ∙ ap₂ refused n m; ring = l.ring ∙ z; modules = l.modules ∙ ap (λ (y : Sheet). y.modules) s } in
-          keeps bytes t x t (leaves noSheet zeroRing t (refused (number_of why') place') x o (run-offence bytes t q))
+          let o : Ended (refused (number_of why') place') zero_ring no_sheet.modules x = record { answer = l.answer ∙ ap₂ refused n m; ring = l.ring ∙ z; modules = l.modules ∙ ap (λ (y : Sheet). y.modules) s } in
+          keeps bytes t x t (leaves no_sheet zero_ring t (refused (number_of why') place') x o (run-offence bytes t q))

@@ -9,20 +9,20 @@ use lib.Dec.{eqb}
 use lib.ListN.{length}
 use borrow.Author.Tests.{eq-eqb, ne_eqb, le-leb}
 use Rattle.limits.specs.Refusals as limits
-use Rattle.turn.specs.Turn.{spokenBy}
-use Rattle.ring.specs.Ring.{seatOf, ownerOf, freshRing}
-use Rattle.ring.specs.Refusals.{stepTells}
+use Rattle.turn.specs.Turn.{spoken_by}
+use Rattle.ring.specs.Ring.{seat_of, owner_of, fresh_ring}
+use Rattle.ring.specs.Refusals.{step_tells}
 use Rattle.ring.specs.Promise.{FreshPromise, StepPromise}
 use Rattle.ring.specs.declared.Ring.{Ring}
 use Rattle.ring.specs.declared.Stepped.{Stepped}
-use Rattle.steps.specs.Run.{Marks, Bench, toldOn, stepOn, freshBench}
+use Rattle.steps.specs.Run.{Marks, Bench, told_on, step_on, fresh_bench}
 use Rattle.steps.proofs.Reached.{fresh-n, fresh-time, step_after, step-refused, step-length}
-use Rattle.sheet.specs.Good.{mark_of, heardIn, GoodSheet}
+use Rattle.sheet.specs.Good.{mark_of, heard_in, GoodSheet}
 use Rattle.sheet.specs.declared.Sheet.{Sheet}
-use Rattle.run.specs.Marks.{ownerAt, marksAt}
+use Rattle.run.specs.Marks.{owner_at, marks_at}
 use Rattle.run.specs.Outcome.{agrees, differs, Outcome, refused, Result}
-use Rattle.run.specs.Run.{heardAs, spokenOn, ends, judged, run_from, runSheet}
-use Rattle.run.specs.Inside.{noneGathered, withMark, slotOver, givenBy, Ended, Leaves}
+use Rattle.run.specs.Run.{heard_as, spoken_on, ends, judged, run_from, run_sheet}
+use Rattle.run.specs.Inside.{none_gathered, with_mark, slot_over, given_by, Ended, Leaves}
 use Rattle.run.specs.declared.Ran.{Ran}
 use Rattle.run.specs.declared.marks.Gathered.{Gathered}
 use Rattle.run.specs.declared.marks.SlotMarks.{SlotMarks}
@@ -32,11 +32,11 @@ abbrev pub bench : Ring → List ℕ → Bench
 bench ring trail = record { ring = ring; trail = trail }
 
 -- the marks of the ring's slot, and what was heard in it
-abbrev pub marksOn : Sheet → Bench → Marks
-marksOn sheet b = marksAt sheet b.ring.time
+abbrev pub marks_on : Sheet → Bench → Marks
+marks_on sheet b = marks_at sheet b.ring.time
 
-abbrev pub heardOn : Sheet → Bench → ℕ
-heardOn sheet b = heardIn sheet b.ring.time
+abbrev pub heard_on : Sheet → Bench → ℕ
+heard_on sheet b = heard_in sheet b.ring.time
 
 -- ---- one slot of the run
 
@@ -45,16 +45,16 @@ unfolding run_from
 run_ends sheet b = refl
 
 module _ (sheet : Sheet) (b : Bench) (left : ℕ) where
-  pub run-differs : eqb (spokenOn (marksOn sheet b) b) (heardOn sheet b) ≡ false → run_from (suc left) sheet b ≡ judged sheet b (differs b.ring.time)
+  pub run-differs : eqb (spoken_on (marks_on sheet b) b) (heard_on sheet b) ≡ false → run_from (suc left) sheet b ≡ judged sheet b (differs b.ring.time)
   unfolding run_from
   run-differs e = rw e
 
-  module _ (same : eqb (spokenOn (marksOn sheet b) b) (heardOn sheet b) ≡ true) where
-    pub run-stops : {number place : ℕ} → toldOn (marksOn sheet b) b ≡ limits.refused number place → run_from (suc left) sheet b ≡ ends sheet b (refused number place)
+  module _ (same : eqb (spoken_on (marks_on sheet b) b) (heard_on sheet b) ≡ true) where
+    pub run-stops : {number place : ℕ} → told_on (marks_on sheet b) b ≡ limits.refused number place → run_from (suc left) sheet b ≡ ends sheet b (refused number place)
     unfolding run_from
     run-stops e = rw (same, e)
 
-    pub run-goes-on : toldOn (marksOn sheet b) b ≡ limits.done → run_from (suc left) sheet b ≡ run_from left sheet (stepOn (marksOn sheet b) b)
+    pub run-goes-on : told_on (marks_on sheet b) b ≡ limits.done → run_from (suc left) sheet b ≡ run_from left sheet (step_on (marks_on sheet b) b)
     unfolding run_from
     run-goes-on e = rw (same, e)
 
@@ -69,23 +69,23 @@ pub record Going (sheet : Sheet) (whole : Result) (trail : List ℕ) (r : Ring) 
   pub same : (left : ℕ) → left + at ≡ sheet.slot_count → run_from left sheet (bench r trail) ≡ whole
 
 -- a good sheet has a fresh ring
-pub fresh-given : (sheet : Sheet) → GoodSheet sheet → (s : Stepped) → FreshPromise sheet.n s → s.ring ≡ freshRing sheet.n
+pub fresh-given : (sheet : Sheet) → GoodSheet sheet → (s : Stepped) → FreshPromise sheet.n s → s.ring ≡ fresh_ring sheet.n
 fresh-given sheet good s p = p.ring ∙ rw (le-leb 2 sheet.n good.seats.0, le-leb sheet.n 32 good.seats.1)
 
-pub going_start : (sheet : Sheet) (t : List ℕ) → Going sheet (runSheet sheet t) t (freshRing sheet.n) noneGathered 0
+pub going_start : (sheet : Sheet) (t : List ℕ) → Going sheet (run_sheet sheet t) t (fresh_ring sheet.n) none_gathered 0
 going_start sheet t = record {
   seats = fresh-n sheet.n;
   time = fresh-time sheet.n;
   within = omega arith;
   gathers = none_yet sheet;
-  same = λ left e. let q : left ≡ sheet.slot_count = omega arith in ap (λ (k : ℕ). run_from k sheet (freshBench sheet.n t)) q;
+  same = λ left e. let q : left ≡ sheet.slot_count = omega arith in ap (λ (k : ℕ). run_from k sheet (fresh_bench sheet.n t)) q;
 }
 
 module _ {sheet : Sheet} {all : Result} {trail : List ℕ} {r : Ring} {g : Gathered} {at : ℕ} (go : Going sheet all trail r g at) where
   -- one mark more of this slot
-  pub going-mark : GoodSheet sheet → g.next < sheet.mark_count → (mark_of sheet g.next).time ≡ at
-      → Going sheet all trail r (withMark g (mark_of sheet g.next)) at
-  going-mark good l e = record {
+  pub going_mark : GoodSheet sheet → g.next < sheet.mark_count → (mark_of sheet g.next).time ≡ at
+      → Going sheet all trail r (with_mark g (mark_of sheet g.next)) at
+  going_mark good l e = record {
     seats = go.seats;
     time = go.time;
     within = go.within;
@@ -94,27 +94,27 @@ module _ {sheet : Sheet} {all : Result} {trail : List ℕ} {r : Ring} {g : Gathe
   }
 
   -- no slot is left
-  pub going-over : sheet.slot_count ≤ at → all ≡ judged sheet (bench r trail) agrees
-  going-over l = sym (go.same zero (let h = go.within in omega arith)) ∙ run_ends sheet (bench r trail)
+  pub going_over : sheet.slot_count ≤ at → all ≡ judged sheet (bench r trail) agrees
+  going_over l = sym (go.same zero (let h = go.within in omega arith)) ∙ run_ends sheet (bench r trail)
 
   module _ (good : GoodSheet sheet) (early : at < sheet.slot_count) (whole : Whole sheet at g) where
     abbrev b : Bench
     b = bench r trail
 
     abbrev given : SlotMarks
-    given = givenBy g (ownerAt sheet at)
+    given = given_by g (owner_at sheet at)
 
     -- the marks gathered are the slot's
-    marks-given : record { send = given.send; receive = given.receive } ≡ marksOn sheet b
+    marks-given : record { send = given.send; receive = given.receive } ≡ marks_on sheet b
     marks-given =
         let s = send-given sheet good at g go.gathers whole in
         let q = receive-given sheet good at g go.gathers whole in
-        ap₂ (λ (x : Bool) (y : ℕ). record { send = x; receive = y }) s q ∙ ap (marksAt sheet) (sym go.time)
+        ap₂ (λ (x : Bool) (y : ℕ). record { send = x; receive = y }) s q ∙ ap (marks_at sheet) (sym go.time)
 
-    pub spoken-given : heardAs (spokenBy (ownerAt sheet at) (seatOf r (ownerAt sheet at)).set (seatOf r (ownerAt sheet at)).ack given.send) ≡ spokenOn (marksOn sheet b) b
+    pub spoken-given : heard_as (spoken_by (owner_at sheet at) (seat_of r (owner_at sheet at)).set (seat_of r (owner_at sheet at)).ack given.send) ≡ spoken_on (marks_on sheet b) b
     spoken-given =
-        let o : ownerAt sheet at ≡ ownerOf r = ap₂ (λ (x y : ℕ). x % y) (sym go.time) (sym go.seats) in
-        ap (λ (k : ℕ). heardAs (spokenBy k (seatOf r k).set (seatOf r k).ack given.send)) o ∙ ap (λ (m : Marks). spokenOn m b) marks-given
+        let o : owner_at sheet at ≡ owner_of r = ap₂ (λ (x y : ℕ). x % y) (sym go.time) (sym go.seats) in
+        ap (λ (k : ℕ). heard_as (spoken_by k (seat_of r k).set (seat_of r k).ack given.send)) o ∙ ap (λ (m : Marks). spoken_on m b) marks-given
 
     left : ℕ
     left = sheet.slot_count - (at + 1)
@@ -125,39 +125,39 @@ module _ {sheet : Sheet} {all : Result} {trail : List ℕ} {r : Ring} {g : Gathe
     from = go.same (suc (sheet.slot_count - (at + 1))) (omega arith)
 
     -- what was heard
-    line : heardIn sheet at ≡ heardOn sheet b
-    line = ap (heardIn sheet) (sym go.time)
+    line : heard_in sheet at ≡ heard_on sheet b
+    line = ap (heard_in sheet) (sym go.time)
 
-    pub going-differs : (spokenOn (marksOn sheet b) b ≡ heardIn sheet at → ⊥) → all ≡ judged sheet b (differs at)
-    going-differs n =
-        sym from ∙ run-differs sheet b left (ne_eqb (spokenOn (marksOn sheet b) b) (heardOn sheet b) (λ e. n (e ∙ sym line)))
+    pub going_differs : (spoken_on (marks_on sheet b) b ≡ heard_in sheet at → ⊥) → all ≡ judged sheet b (differs at)
+    going_differs n =
+        sym from ∙ run-differs sheet b left (ne_eqb (spoken_on (marks_on sheet b) b) (heard_on sheet b) (λ e. n (e ∙ sym line)))
         ∙ ap (λ (t : ℕ). judged sheet b (differs t)) go.time
 
-    module _ (heard : spokenOn (marksOn sheet b) b ≡ heardIn sheet at) {s : Stepped} {t' : List ℕ}
+    module _ (heard : spoken_on (marks_on sheet b) b ≡ heard_in sheet at) {s : Stepped} {t' : List ℕ}
         (p : StepPromise r given.send given.receive trail s t') where
-      alike : eqb (spokenOn (marksOn sheet b) b) (heardOn sheet b) ≡ true
-      alike = eq-eqb (spokenOn (marksOn sheet b) b) (heardOn sheet b) (heard ∙ line)
+      alike : eqb (spoken_on (marks_on sheet b) b) (heard_on sheet b) ≡ true
+      alike = eq-eqb (spoken_on (marks_on sheet b) b) (heard_on sheet b) (heard ∙ line)
 
-      answered : stepTells s.answer ≡ toldOn (marksOn sheet b) b
-      answered = p.answer ∙ ap (λ (m : Marks). toldOn m b) marks-given
+      answered : step_tells s.answer ≡ told_on (marks_on sheet b) b
+      answered = p.answer ∙ ap (λ (m : Marks). told_on m b) marks-given
 
-      stepped : bench s.ring t' ≡ stepOn (marksOn sheet b) b
-      stepped = ap₂ (λ (x : Ring) (y : List ℕ). bench x y) p.ring p.trail ∙ ap (λ (m : Marks). stepOn m b) marks-given
+      stepped : bench s.ring t' ≡ step_on (marks_on sheet b) b
+      stepped = ap₂ (λ (x : Ring) (y : List ℕ). bench x y) p.ring p.trail ∙ ap (λ (m : Marks). step_on m b) marks-given
 
-      pub going-length : length t' ≡ length trail
-      going-length = ap (λ (x : Bench). length x.trail) stepped ∙ step-length (marksOn sheet b) b
+      pub going_length : length t' ≡ length trail
+      going_length = ap (λ (x : Bench). length x.trail) stepped ∙ step-length (marks_on sheet b) b
 
-      pub going-stops : {number place : ℕ} → stepTells s.answer ≡ limits.refused number place → all ≡ ends sheet (bench s.ring t') (refused number place)
-      going-stops {number} {place} e =
+      pub going_stops : {number place : ℕ} → step_tells s.answer ≡ limits.refused number place → all ≡ ends sheet (bench s.ring t') (refused number place)
+      going_stops {number} {place} e =
           let q = sym answered ∙ e in
           sym from ∙ run-stops sheet b left alike q
-          ∙ ap (λ (x : Bench). ends sheet x (refused number place)) (sym (stepped ∙ step-refused (marksOn sheet b) b q))
+          ∙ ap (λ (x : Bench). ends sheet x (refused number place)) (sym (stepped ∙ step-refused (marks_on sheet b) b q))
 
-      pub going_on : stepTells s.answer ≡ limits.done → Going sheet all t' s.ring (slotOver g) (at + 1)
+      pub going_on : step_tells s.answer ≡ limits.done → Going sheet all t' s.ring (slot_over g) (at + 1)
       unfolding left
       going_on e =
           let q = sym answered ∙ e in
-          let after = stepped ∙ step_after (marksOn sheet b) b q in
+          let after = stepped ∙ step_after (marks_on sheet b) b q in
           let n = ap (λ (x : Bench). x.ring.n) after in
           let t = ap (λ (x : Bench). x.ring.time) after in
           record {
@@ -168,7 +168,7 @@ module _ {sheet : Sheet} {all : Result} {trail : List ℕ} {r : Ring} {g : Gathe
             same = λ more h.
                 let k : more ≡ left = omega arith in
                 ap (run_from more sheet) stepped
-                ∙ ap (λ (x : ℕ). run_from x sheet (stepOn (marksOn sheet b) b)) k
+                ∙ ap (λ (x : ℕ). run_from x sheet (step_on (marks_on sheet b) b)) k
                 ∙ sym (run-goes-on sheet b left alike q)
                 ∙ from;
           }

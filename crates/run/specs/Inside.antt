@@ -1,7 +1,7 @@
 -- What the run's inner functions promise. A reader of the promise of `run` needs none of it.
 use Rattle.std.specs.Prelude.{List, ◌≡◌, ℕ, ◌+◌, eqb}
 use Rattle.std.specs.Int.Bits.{bit_or}
-use Rattle.seats.specs.Sets.{hasSeat, withoutSeat}
+use Rattle.seats.specs.Sets.{has_seat, without_seat}
 use Rattle.seats.specs.Joined.{added}
 use Rattle.ring.specs.declared.Ring.{Ring}
 use Rattle.sheet_lines.specs.Bytes.{send, receive, dark}
@@ -13,22 +13,22 @@ use Rattle.run.specs.declared.marks.SlotMarks.{SlotMarks}
 
 -- ---- the marks gathered
 
-abbrev pub noneGathered : Gathered
-noneGathered = record { next = 0; send = 0; receive = 0; dark = 0 }
+abbrev pub none_gathered : Gathered
+none_gathered = record { next = 0; send = 0; receive = 0; dark = 0 }
 
-abbrev pub withMark : Gathered → Mark → Gathered
-withMark g m = record {
+abbrev pub with_mark : Gathered → Mark → Gathered
+with_mark g m = record {
   next = g.next + 1;
   send = added g.send m.seat (eqb m.kind send);
   receive = added g.receive m.seat (eqb m.kind receive);
   dark = added g.dark m.seat (eqb m.kind dark);
 }
 
-abbrev pub slotOver : Gathered → Gathered
-slotOver g = record { next = g.next; send = 0; receive = 0; dark = g.dark }
+abbrev pub slot_over : Gathered → Gathered
+slot_over g = record { next = g.next; send = 0; receive = 0; dark = g.dark }
 
-abbrev pub givenBy : Gathered → ℕ → SlotMarks
-givenBy g owner = record { send = hasSeat (bit_or g.send g.dark) owner; receive = withoutSeat (bit_or g.receive g.dark) owner }
+abbrev pub given_by : Gathered → ℕ → SlotMarks
+given_by g owner = record { send = has_seat (bit_or g.send g.dark) owner; receive = without_seat (bit_or g.receive g.dark) owner }
 
 -- ---- the run's value
 

@@ -1,11 +1,11 @@
 // A sheet run: its marks slot by slot, the bus compared, the ring stepped, the trail written.
 ghost use Rattle.std.specs.Prelude.{◌≡◌};
 ghost use Rattle.limits.specs.Refusals.{number_of};
-ghost use Rattle.ring.specs.Refusals.{verdictFound};
+ghost use Rattle.ring.specs.Refusals.{verdict_found};
 ghost use Rattle.sheet.specs.Good.{GoodSheet};
 ghost use Rattle.run.specs.Outcome.{heard, ran, refused};
-ghost use Rattle.run.specs.Run.{heardAs, runSheet, RunPromise};
-ghost use Rattle.turn.specs.Turn.{spokenBy};
+ghost use Rattle.run.specs.Run.{heard_as, run_sheet, RunPromise};
+ghost use Rattle.turn.specs.Turn.{spoken_by};
 ghost use Rattle.run.specs.Inside.{Ended, Leaves};
 
 use limits::Refusal;
@@ -39,7 +39,7 @@ pub struct Ran {
 
 // What the bus recorder should hear of an owner with this set and acknowledgement.
 fn spoken(owner: usize, set: u32, ack: bool, send: bool) -> u8
-    ensures { result ≡ heardAs (spokenBy owner set ack send) }
+    ensures { result ≡ heard_as (spoken_by owner set ack send) }
 {
     let spoken = turn::speak(owner, set, ack, send);
     let Spoken::Bit(bit) = spoken else {
@@ -53,7 +53,7 @@ fn spoken(owner: usize, set: u32, ack: bool, send: bool) -> u8
 
 // A run that ends with this ring: what the bus showed, and the verdict.
 fn judged(bus: Bus, ring: Ring, modules: [u16; limits::SEATS_MOST]) -> Ran
-    ensures { Ended (ran (heard bus) (verdictFound ring)) ring modules result }
+    ensures { Ended (ran (heard bus) (verdict_found ring)) ring modules result }
 {
     let judged = ring.verdict();
     let verdict = judged.verdict;
@@ -80,7 +80,7 @@ fn refused(why: Refusal, place: usize, ring: Ring, modules: [u16; limits::SEATS_
 // sheet is copied in a turn.
 fn through(sheet: Sheet, trail: &mut [u8]) -> Ran
     requires { GoodSheet sheet }
-    ensures { Leaves (runSheet sheet trail.old) result trail.new }
+    ensures { Leaves (run_sheet sheet trail.old) result trail.new }
 {
     let n = sheet.n;
     let modules = sheet.modules;

@@ -1,9 +1,9 @@
 // The marks of a slot, gathered as the run goes on: the marks of a sheet ascend by time, so that the place in
 // them only moves forward.
 ghost use Rattle.std.specs.Prelude.{◌≡◌, ◌<◌};
-ghost use Rattle.limits.specs.Limits.{seatsMost, marksMost};
+ghost use Rattle.limits.specs.Limits.{seats_most, marks_most};
 ghost use Rattle.seats.specs.Joined.{added};
-ghost use Rattle.run.specs.Inside.{noneGathered, withMark, slotOver, givenBy};
+ghost use Rattle.run.specs.Inside.{none_gathered, with_mark, slot_over, given_by};
 
 use sheet::Mark;
 
@@ -25,7 +25,7 @@ pub struct SlotMarks {
 }
 
 pub fn none_gathered() -> Gathered
-    ensures { result ≡ noneGathered }
+    ensures { result ≡ none_gathered }
 {
     Gathered {
         next: 0,
@@ -37,7 +37,7 @@ pub fn none_gathered() -> Gathered
 
 // The set with the seat in it too, where that is so.
 fn with_seat(set: u32, seat: usize, marked: bool) -> u32
-    requires { seat < seatsMost }
+    requires { seat < seats_most }
     ensures { result ≡ added set seat marked }
 {
     if marked { set | (1 << seat) } else { set }
@@ -45,8 +45,8 @@ fn with_seat(set: u32, seat: usize, marked: bool) -> u32
 
 // One mark more of this slot.
 pub fn with_mark(g: Gathered, mark: Mark) -> Gathered
-    requires { (g.next < marksMost) × (mark.seat < seatsMost) }
-    ensures { result ≡ withMark g mark }
+    requires { (g.next < marks_most) × (mark.seat < seats_most) }
+    ensures { result ≡ with_mark g mark }
 {
     let seat = mark.seat as usize;
     let kind = mark.kind;
@@ -60,7 +60,7 @@ pub fn with_mark(g: Gathered, mark: Mark) -> Gathered
 
 // On to the next slot: darkness does not end.
 pub fn slot_over(g: Gathered) -> Gathered
-    ensures { result ≡ slotOver g }
+    ensures { result ≡ slot_over g }
 {
     Gathered {
         next: g.next,
@@ -72,7 +72,7 @@ pub fn slot_over(g: Gathered) -> Gathered
 
 // A dark seat has a send mark in its own slots and a receive mark in all others.
 pub fn given_by(g: Gathered, owner: usize) -> SlotMarks
-    ensures { result ≡ givenBy g owner }
+    ensures { result ≡ given_by g owner }
 {
     SlotMarks {
         send: seats::has(g.send | g.dark, owner),

@@ -5,17 +5,17 @@ use mathlib.Core.Bool.{true}
 use mathlib.Core.List.{List, [], ◌∷◌, ◌++◌}
 use Prim.Native.Nat.{ℕ}
 use lib.ListN.{take, replicate}
-use Rattle.ring.specs.Ring.{freshRing, zeroRing, is_ring, everySeatStands}
+use Rattle.ring.specs.Ring.{fresh_ring, zero_ring, is_ring, every_seat_stands}
 use Rattle.turn.specs.Turn.{turn_of}
-use Rattle.terms.specs.Terms.{termsHold, firstFailing}
-use Rattle.ring.specs.Refusals.{within, stepTold, verdictFound}
-use Rattle.ring.specs.Promise.{ringOf, trailOf}
-use Rattle.sheet_lines.specs.Bytes.{byte_at, digitsAt, number_at}
-use Rattle.sheet_lines.specs.Lines.{end_at, ended, line_at, spacedAt}
-use Rattle.sheet.specs.Entries.{linesAt, isNew, moduleLine, slotLine}
-use Rattle.sheet.specs.Marks.{markOffence, fields_at, markLine}
-use Rattle.sheet.specs.Sheets.{noModules, noMarks, noSlots, sheetIn}
-use Rattle.run.specs.Marks.{marksAt}
+use Rattle.terms.specs.Terms.{terms_hold, first_failing}
+use Rattle.ring.specs.Refusals.{within, step_told, verdict_found}
+use Rattle.ring.specs.Promise.{ring_of, trail_of}
+use Rattle.sheet_lines.specs.Bytes.{byte_at, digits_at, number_at}
+use Rattle.sheet_lines.specs.Lines.{end_at, ended, line_at, spaced_at}
+use Rattle.sheet.specs.Entries.{lines_at, is_new, module_line, slot_line}
+use Rattle.sheet.specs.Marks.{mark_offence, fields_at, mark_line}
+use Rattle.sheet.specs.Sheets.{no_modules, no_marks, no_slots, sheet_in}
+use Rattle.run.specs.Marks.{marks_at}
 use Rattle.run.specs.Outcome.{agrees, differs, ran, refused}
 use Rattle.run.specs.Run.{run_from, run_of}
 
@@ -69,14 +69,14 @@ DarkRun = let x = run_of (ring ++ darkened ++ printed) (replicate 40 7) in
 -- no mark takes hold: everybody speaks true
 abbrev SteadyRun : Type 0
 SteadyRun = let x = run_of (ring ++ unmarked ++ steady) [] in
-    (x.outcome ≡ ran agrees within) × (x.ring.sets ≡ (freshRing 4).sets) × (x.ring.time ≡ 4) × (x.trail ≡ [])
+    (x.outcome ≡ ran agrees within) × (x.ring.sets ≡ (fresh_ring 4).sets) × (x.ring.time ≡ 4) × (x.trail ≡ [])
 
 -- a sheet that ends early: refused, with the zero ring and the trail as it came
 abbrev RefusedRun : Type 0
-RefusedRun = let x = run_of ring (7 ∷ []) in (x.outcome ≡ refused 1 14) × (x.ring ≡ zeroRing) × (x.modules ≡ noModules) × (x.trail ≡ 7 ∷ [])
+RefusedRun = let x = run_of ring (7 ∷ []) in (x.outcome ≡ refused 1 14) × (x.ring ≡ zero_ring) × (x.modules ≡ no_modules) × (x.trail ≡ 7 ∷ [])
 
 -- ---- all computed
 
 small-runs : PrintedRun × StoppedRun × FullRun × DarkRun × SteadyRun × RefusedRun
-unfolding ring missed darkened unmarked printed steady third run_of run_from marksAt sheetIn noModules noMarks noSlots linesAt moduleLine markLine slotLine isNew line_at ended end_at number_at digitsAt byte_at fields_at spacedAt markOffence stepTold ringOf trailOf verdictFound is_ring everySeatStands freshRing zeroRing turn_of termsHold firstFailing
+unfolding ring missed darkened unmarked printed steady third run_of run_from marks_at sheet_in no_modules no_marks no_slots lines_at module_line mark_line slot_line is_new line_at ended end_at number_at digits_at byte_at fields_at spaced_at mark_offence step_told ring_of trail_of verdict_found is_ring every_seat_stands fresh_ring zero_ring turn_of terms_hold first_failing
 small-runs = ((refl, refl, refl, refl, refl), (refl, refl, refl), (refl, refl, refl), (refl, refl, refl), (refl, refl, refl, refl), (refl, refl, refl, refl))

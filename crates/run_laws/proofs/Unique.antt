@@ -3,7 +3,7 @@ use mathlib.Core.Path.{◌≡◌, refl, sym, ap, ap₂, ◌∙◌}
 use mathlib.Core.List.{List}
 use Prim.Native.Nat.{ℕ}
 use native.Mathlib.Omega.{arith}
-use Rattle.limits.proofs.Refusals.{one-reason}
+use Rattle.limits.proofs.Refusals.{one_reason}
 use Rattle.limits.specs.Refusals.{number_of}
 use Rattle.ring.specs.Refusals.{found}
 use Rattle.ring.proofs.Unique.{one-verdict}
@@ -15,11 +15,11 @@ use Rattle.run.specs.declared.RunAnswer.{RunAnswer}
 use Rattle.run.specs.declared.RunAnswer.TheVariants.{Ran, Refused}
 use Rattle.run.specs.declared.Ran as value
 
-one-bus : (a b : Bus) → heard a ≡ heard b → a ≡ b
-one-bus Agrees Agrees e = refl
-one-bus Agrees (Differs u) e = let z : ◌≡◌ {A = ℕ} 0 1 = cc in absurd (omega arith)
-one-bus (Differs t) Agrees e = let z : ◌≡◌ {A = ℕ} 0 1 = cc in absurd (omega arith)
-one-bus (Differs t) (Differs u) e = ap Differs (cc)
+one_bus : (a b : Bus) → heard a ≡ heard b → a ≡ b
+one_bus Agrees Agrees e = refl
+one_bus Agrees (Differs u) e = let z : ◌≡◌ {A = ℕ} 0 1 = cc in absurd (omega arith)
+one_bus (Differs t) Agrees e = let z : ◌≡◌ {A = ℕ} 0 1 = cc in absurd (omega arith)
+one_bus (Differs t) (Differs u) e = ap Differs (cc)
 
 module _ (bytes t : List ℕ) where
   one_answer : (a b : RunAnswer) → said a ≡ (run_of bytes t).outcome → said b ≡ (run_of bytes t).outcome → a ≡ b
@@ -27,14 +27,14 @@ module _ (bytes t : List ℕ) where
       let h : ran (heard bus) (found v) ≡ ran (heard bus') (found w) = p ∙ sym q in
       let e : heard bus ≡ heard bus' = cc in
       let f : found v ≡ found w = cc in
-      ap₂ Ran (one-bus bus bus' e) (one-verdict v w f)
+      ap₂ Ran (one_bus bus bus' e) (one-verdict v w f)
   one_answer (Ran bus v) (Refused y k) p q = let z : ◌≡◌ {A = ℕ} 0 1 = cc in absurd (omega arith)
   one_answer (Refused x j) (Ran bus w) p q = let z : ◌≡◌ {A = ℕ} 0 1 = cc in absurd (omega arith)
   one_answer (Refused x j) (Refused y k) p q =
       let h : refused (number_of x) j ≡ refused (number_of y) k = p ∙ sym q in
       let n : number_of x ≡ number_of y = cc in
       let m : j ≡ k = cc in
-      ap₂ Refused (one-reason x y n) m
+      ap₂ Refused (one_reason x y n) m
 
   pub one-run : (x y : value.Ran) (t' t'' : List ℕ) → RunPromise bytes t x t' → RunPromise bytes t y t'' → (x ≡ y) × (t' ≡ t'')
   one-run x y t' t'' p q =

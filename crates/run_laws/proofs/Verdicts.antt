@@ -6,18 +6,18 @@ use mathlib.Core.Logic.{⊎_elim}
 use Prim.Native.Nat.{ℕ}
 use native.Mathlib.Omega.{arith}
 use lib.Dec.{ltb}
-use Rattle.limits.specs.Limits.{roomMost}
+use Rattle.limits.specs.Limits.{room_most}
 use Rattle.ring.specs.Ring.{is_ring}
-use Rattle.terms.specs.Terms.{firstFailing}
-use Rattle.ring.specs.Refusals.{Finding, within, outside, unfit, verdictFound}
+use Rattle.terms.specs.Terms.{first_failing}
+use Rattle.ring.specs.Refusals.{Finding, within, outside, unfit, verdict_found}
 use Rattle.ring.specs.declared.Ring.{Ring}
-use Rattle.ring.proofs.Checked.{valid-ring, valid-wider}
+use Rattle.ring.proofs.Checked.{valid-ring, valid_wider}
 use Rattle.sheet.specs.Good.{GoodSheet}
 use Rattle.sheet.specs.declared.Sheet.{Sheet}
 use Rattle.run.specs.Outcome.{Heard, Outcome, ran, Result}
-use Rattle.run.specs.Run.{runSheet, run_of}
+use Rattle.run.specs.Run.{run_sheet, run_of}
 use Rattle.run.proofs.Reading.{read_is, run-offence}
-use Rattle.run.proofs.Story.{benchAt, Ending, agreed, differed, stopped, run-story}
+use Rattle.run.proofs.Story.{bench_at, Ending, agreed, differed, stopped, run-story}
 use Rattle.run.proofs.Fits.{last-stands}
 
 -- ---- what is said
@@ -30,7 +30,7 @@ NeverUnfit = (bytes t : List ℕ) (bus : Heard) (number place : ℕ) → (run_of
 
 -- the verdict of a run is that on its last ring
 ending-verdict : (sheet : Sheet) (t : List ℕ) (k : ℕ) (o : Outcome) → Ending sheet t k o → (bus : Heard) (f : Finding) → o ≡ ran bus f
-    → f ≡ verdictFound (benchAt sheet t k).ring
+    → f ≡ verdict_found (bench_at sheet t k).ring
 ending-verdict sheet t k o (agreed e) bus f q = cc
 ending-verdict sheet t k o (differed l n) bus f q = cc
 ending-verdict sheet t k o (stopped l a e) bus f q = let z : ◌≡◌ {A = ℕ} 0 1 = cc in absurd (omega arith)
@@ -39,11 +39,11 @@ ending-verdict sheet t k o (stopped l a e) bus f q = let z : ◌≡◌ {A = ℕ}
 record OfSheet (bytes t : List ℕ) (f : Finding) : Type 0 where
   sheet : Sheet
   good : GoodSheet sheet
-  same : run_of bytes t ≡ runSheet sheet t
-  verdict : f ≡ verdictFound (benchAt sheet t (run-story sheet t).steps).ring
+  same : run_of bytes t ≡ run_sheet sheet t
+  verdict : f ≡ verdict_found (bench_at sheet t (run-story sheet t).steps).ring
 
-of-sheet : (bytes t : List ℕ) (bus : Heard) (f : Finding) → (run_of bytes t).outcome ≡ ran bus f → OfSheet bytes t f
-of-sheet bytes t bus f e =
+of_sheet_lem : (bytes t : List ℕ) (bus : Heard) (f : Finding) → (run_of bytes t).outcome ≡ ran bus f → OfSheet bytes t f
+of_sheet_lem bytes t bus f e =
     ⊎_elim
     (λ r.
     let s = run-story r.0 t in
@@ -56,21 +56,21 @@ of-sheet bytes t bus f e =
     (λ r. let q = sym (ap (λ (y : Result). y.outcome) (run-offence bytes t r.2)) ∙ e in let z : ◌≡◌ {A = ℕ} 0 1 = cc in absurd (omega arith))
     (read_is bytes)
 
-pub run-verdict : (bytes t : List ℕ) (bus : Heard) (f : Finding) → (run_of bytes t).outcome ≡ ran bus f → f ≡ verdictFound (run_of bytes t).ring
+pub run-verdict : (bytes t : List ℕ) (bus : Heard) (f : Finding) → (run_of bytes t).outcome ≡ ran bus f → f ≡ verdict_found (run_of bytes t).ring
 run-verdict bytes t bus f e =
-    let j = of-sheet bytes t bus f e in
-    j.verdict ∙ ap verdictFound (sym (run-story j.sheet t).ring) ∙ ap (λ (y : Result). verdictFound y.ring) (sym j.same)
+    let j = of_sheet_lem bytes t bus f e in
+    j.verdict ∙ ap verdict_found (sym (run-story j.sheet t).ring) ∙ ap (λ (y : Result). verdict_found y.ring) (sym j.same)
 
-verdict-fit : (r : Ring) (number place : ℕ) → is_ring r roomMost ≡ true → unfit number place ≡ verdictFound r → ⊥
-unfolding verdictFound
-verdict-fit r number place v e = go (ltb (firstFailing r.n r.faults r.time) r.time) (rw v at e)
+verdict-fit : (r : Ring) (number place : ℕ) → is_ring r room_most ≡ true → unfit number place ≡ verdict_found r → ⊥
+unfolding verdict_found
+verdict-fit r number place v e = go (ltb (first_failing r.n r.faults r.time) r.time) (rw v at e)
   where
-    go : (b : Bool) → unfit number place ≡ cond b (outside (firstFailing r.n r.faults r.time)) within → ⊥
+    go : (b : Bool) → unfit number place ≡ cond b (outside (first_failing r.n r.faults r.time)) within → ⊥
     go true q = let z : ◌≡◌ {A = ℕ} 0 1 = cc in omega arith
     go false q = let z : ◌≡◌ {A = ℕ} 0 1 = cc in omega arith
 
 pub never-unfit : NeverUnfit
 never-unfit bytes t bus number place e =
-    let j = of-sheet bytes t bus (unfit number place) e in
-    let r = (benchAt j.sheet t (run-story j.sheet t).steps).ring in
-    verdict-fit r number place (valid-ring r roomMost (valid-wider r (omega arith) (last-stands j.sheet j.good t).valid)) j.verdict
+    let j = of_sheet_lem bytes t bus (unfit number place) e in
+    let r = (bench_at j.sheet t (run-story j.sheet t).steps).ring in
+    verdict-fit r number place (valid-ring r room_most (valid_wider r (omega arith) (last-stands j.sheet j.good t).valid)) j.verdict

@@ -11,8 +11,8 @@ use lib.Bits.{bit_or, or_step, or_shr, or_lt, or_shifted_r}
 use borrow.Author.Tests.{eqb-true, eqb-false, eq-eqb, ne_eqb}
 use Rattle.lists.proofs.Counted.{below_last}
 use Rattle.lists.proofs.Tests.{both, and-false}
-use Rattle.seats.specs.Sets.{hasSeat}
-use Rattle.seats.specs.Joined.{added, seatsWith}
+use Rattle.seats.specs.Sets.{has_seat}
+use Rattle.seats.specs.Joined.{added, seats_with}
 use Rattle.seats.proofs.Sets.{none-past, has_one}
 
 -- ---- two sets in one
@@ -20,7 +20,7 @@ use Rattle.seats.proofs.Sets.{none-past, has_one}
 digit_or : (a b j : ℕ) → bit_or a b / 2 ^ j % 2 ≡ max (a / 2 ^ j % 2) (b / 2 ^ j % 2)
 digit_or a b j = ap (λ (x : ℕ). x % 2) (or_shr a b j) ∙ let e = or_step (a / 2 ^ j) (b / 2 ^ j) in omega arith
 
-pub has-or : (a b j : ℕ) → hasSeat (bit_or a b) j ≡ (hasSeat a j || hasSeat b j)
+pub has-or : (a b j : ℕ) → has_seat (bit_or a b) j ≡ (has_seat a j || has_seat b j)
 has-or a b j =
     let e = digit_or a b j in
     ⊎_elim
@@ -30,14 +30,14 @@ has-or a b j =
     ⊎_elim
     (λ q. let y = eqb-true (b / 2 ^ j % 2) 1 q in rw (p, q) (eq-eqb (bit_or a b / 2 ^ j % 2) 1 (omega arith)))
     (λ q. let y = eqb-false (b / 2 ^ j % 2) 1 q in rw (p, q) (ne_eqb (bit_or a b / 2 ^ j % 2) 1 (omega arith)))
-    (both (hasSeat b j)))
-    (both (hasSeat a j))
+    (both (has_seat b j)))
+    (both (has_seat a j))
 
 -- ---- a seat added where that is so
 
-pub has-added : (set j : ℕ) (so : Bool) (p : ℕ) → hasSeat (added set j so) p ≡ (hasSeat set p || (so && eqb p j))
-has-added set j true p = has-or set (2 ^ j) p ∙ ap (λ (b : Bool). hasSeat set p || b) (has_one j p)
-has-added set j false p = sym (or-false (hasSeat set p))
+pub has-added : (set j : ℕ) (so : Bool) (p : ℕ) → has_seat (added set j so) p ≡ (has_seat set p || (so && eqb p j))
+has-added set j true p = has-or set (2 ^ j) p ∙ ap (λ (b : Bool). has_seat set p || b) (has_one j p)
+has-added set j false p = sym (or-false (has_seat set p))
 
 pub added-below : (n set j : ℕ) (so : Bool) → set < 2 ^ n → j < n → added set j so < 2 ^ n
 added-below n set j true l h = or_lt n set (2 ^ j) l (pow-lt h)
@@ -46,28 +46,28 @@ added-below n set j false l h = l
 -- ---- the seats that pass a test
 
 module _ (test : ℕ → Bool) where
-  pub with-below : (n : ℕ) → seatsWith n test < 2 ^ n
-  with-below zero = omega arith
-  with-below (suc k) =
-      let h = with-below k in
+  pub with_below : (n : ℕ) → seats_with n test < 2 ^ n
+  with_below zero = omega arith
+  with_below (suc k) =
+      let h = with_below k in
       let e = pow-suc 2 k in
       ⊎_elim (λ p. rw p (omega arith)) (λ p. rw p (omega arith)) (both (test k))
 
-  one_more : (k : ℕ) → seatsWith (suc k) test ≡ added (seatsWith k test) k (test k)
+  one_more : (k : ℕ) → seats_with (suc k) test ≡ added (seats_with k test) k (test k)
   one_more k =
-      let s = seatsWith k test in
-      let h = or_shifted_r 1 k s (with-below k) in
+      let s = seats_with k test in
+      let h = or_shifted_r 1 k s (with_below k) in
       let u : 1 * 2 ^ k ≡ 2 ^ k = omega arith in
       let w : bit_or s (2 ^ k) ≡ s + 2 ^ k = ap (bit_or s) (sym u) ∙ omega arith in
       ⊎_elim (λ p. rw p (sym w)) (λ p. rw p (omega arith)) (both (test k))
 
-  pub has-with : (n p : ℕ) → p < n → hasSeat (seatsWith n test) p ≡ test p
-  has-with zero p l = absurd (omega arith)
-  has-with (suc k) p l =
-      let s = seatsWith k test in
-      ap (λ (x : ℕ). hasSeat x p) (one_more k)
+  pub has_with : (n p : ℕ) → p < n → has_seat (seats_with n test) p ≡ test p
+  has_with zero p l = absurd (omega arith)
+  has_with (suc k) p l =
+      let s = seats_with k test in
+      ap (λ (x : ℕ). has_seat x p) (one_more k)
       ∙ has-added s k (test k) p
       ∙ ⊎_elim
-      (λ h. rw (ne_eqb p k (omega arith), and-false (test k), or-false (hasSeat s p)) (has-with k p h))
-      (λ e. rw (none-past s k p (with-below k) (omega arith), eq-eqb p k e, and-true (test k)) (ap test (sym e)))
+      (λ h. rw (ne_eqb p k (omega arith), and-false (test k), or-false (has_seat s p)) (has_with k p h))
+      (λ e. rw (none-past s k p (with_below k) (omega arith), eq-eqb p k e, and-true (test k)) (ap test (sym e)))
       (below_last p k l)

@@ -9,9 +9,9 @@ use lib.Pow.{pow_pos, pow-lt, pow_mono, shl_exact}
 use lib.Bits.{bit_and, and_step, and_mask}
 use borrow.Author.Tests.{eqb-true, eqb-false, eq-eqb, ne_eqb, leb-true, leb-false}
 use Rattle.lists.proofs.Tests.{both}
-use Rattle.seats.specs.Sets.{hasSeat, withoutSeat, fullSet}
-use Rattle.seats.proofs.Digits.{digit-zero, digit-suc, digit-le, half-less, odd-less}
-pub use Rattle.seats.proofs.Digits.{ones-in}
+use Rattle.seats.specs.Sets.{has_seat, without_seat, full_set}
+use Rattle.seats.proofs.Digits.{digit-zero, digit_suc, digit_le, half_less, odd_less}
+pub use Rattle.seats.proofs.Digits.{ones_in_lem}
 use Rattle.seats.proofs.Sets.{without_is, without-none, full_is}
 
 -- 1 shifted by less than the width is the power
@@ -19,7 +19,7 @@ pub one_shifted : (j : ℕ) → j < 32 → (1 * 2 ^ j) % 2 ^ 32 ≡ 2 ^ j
 one_shifted j h = shl_exact 1 j 32 (omega arith) (omega arith) ∙ omega arith
 
 -- a mask that is more than the full set has a seat n or above
-reaches : (s n : ℕ) → s < 2 ^ 32 → fullSet n < s → 2 ^ n ≤ s
+reaches : (s n : ℕ) → s < 2 ^ 32 → full_set n < s → 2 ^ n ≤ s
 reaches s n h l =
     ⊎_elim
     (λ e. let m = leb-true n 32 e in let f = full_is n m in omega arith)
@@ -27,44 +27,44 @@ reaches s n h l =
     (both (leb n 32))
 
 -- a shift by n leaves nothing of a mask within the first n seats
-pub within-is : (s n : ℕ) → s < 2 ^ 32 → eqb (s / 2 ^ n) 0 ≡ leb s (fullSet n)
+pub within-is : (s n : ℕ) → s < 2 ^ 32 → eqb (s / 2 ^ n) 0 ≡ leb s (full_set n)
 within-is s n h =
     ⊎_elim
-    (λ e. let l = leb-true s (fullSet n) e in
+    (λ e. let l = leb-true s (full_set n) e in
     let p = pow_pos (min n 32) in
     let m = pow_mono {i = min n 32} {j = n} (omega arith) in
     eq-eqb (s / 2 ^ n) 0 (div-eq_of_lt (omega arith)) ∙ sym e)
-    (λ e. let l = leb-false s (fullSet n) e in
+    (λ e. let l = leb-false s (full_set n) e in
     let p = pow_pos n in
     let d = div-eq-sub-div {m = 2 ^ n} {n = s} p (reaches s n h l) in
     ne_eqb (s / 2 ^ n) 0 (omega arith) ∙ sym e)
-    (both (leb s (fullSet n)))
+    (both (leb s (full_set n)))
 
 -- a removal, one digit down
-without-zero : (s : ℕ) → withoutSeat s 0 ≡ s / 2 * 2
+without-zero : (s : ℕ) → without_seat s 0 ≡ s / 2 * 2
 without-zero s =
     let b = digit-zero s in
     ⊎_elim
     (λ h. let e = eqb-true (s / 2 ^ 0 % 2) 1 h in omega (arith, without_is s 0 h))
     (λ h. let n = eqb-false (s / 2 ^ 0 % 2) 1 h in omega (arith, without-none s 0 h))
-    (both (hasSeat s 0))
+    (both (has_seat s 0))
 
-without-suc : (s j : ℕ) → withoutSeat s (suc j) ≡ withoutSeat (s / 2) j * 2 + s % 2
-without-suc s j =
-    let d : hasSeat (s / 2) j ≡ hasSeat s (suc j) = ap (λ (x : ℕ). eqb x 1) (sym (digit-suc s j)) in
+without_suc : (s j : ℕ) → without_seat s (suc j) ≡ without_seat (s / 2) j * 2 + s % 2
+without_suc s j =
+    let d : has_seat (s / 2) j ≡ has_seat s (suc j) = ap (λ (x : ℕ). eqb x 1) (sym (digit_suc s j)) in
     ⊎_elim
     (λ h.
-    let l = digit-le s (suc j) (eqb-true _ _ h) in
-    let e = half-less s j in
-    let o = odd-less s j l in
+    let l = digit_le s (suc j) (eqb-true _ _ h) in
+    let e = half_less s j in
+    let o = odd_less s j l in
     omega (arith, without_is s (suc j) h, without_is (s / 2) j (d ∙ h)))
     (λ h. omega (arith, without-none s (suc j) h, without-none (s / 2) j (d ∙ h)))
-    (both (hasSeat s (suc j)))
+    (both (has_seat s (suc j)))
 
 -- a mask and-ed with all digits but one
-pub and-all-but : (k s j : ℕ) → s < 2 ^ k → j < k → bit_and s ((2 ^ k - 1) - 2 ^ j) ≡ withoutSeat s j
-and-all-but zero s j h l = absurd (omega arith)
-and-all-but (suc k) s zero h l =
+pub and-all_but : (k s j : ℕ) → s < 2 ^ k → j < k → bit_and s ((2 ^ k - 1) - 2 ^ j) ≡ without_seat s j
+and-all_but zero s j h l = absurd (omega arith)
+and-all_but (suc k) s zero h l =
     let p = pow-suc 2 k in
     let q = pow_pos k in
     let f : ((2 ^ suc k - 1) - 1) / 2 ≡ 2 ^ k - 1 = omega arith in
@@ -74,7 +74,7 @@ and-all-but (suc k) s zero h l =
     ∙ ap₂ (λ (x y : ℕ). bit_and (s / 2) x * 2 + min (s % 2) y) f g
     ∙ ap (λ (x : ℕ). x * 2 + min (s % 2) 0) m
     ∙ let z = without-zero s in omega arith
-and-all-but (suc k) s (suc j) h l =
+and-all_but (suc k) s (suc j) h l =
     let p = pow-suc 2 k in
     let r = pow-suc 2 j in
     let q = pow-lt {i = j} {j = k} (omega arith) in
@@ -82,5 +82,5 @@ and-all-but (suc k) s (suc j) h l =
     let g : ((2 ^ suc k - 1) - 2 ^ suc j) % 2 ≡ 1 = omega arith in
     and_step s ((2 ^ suc k - 1) - 2 ^ suc j)
     ∙ ap₂ (λ (x y : ℕ). bit_and (s / 2) x * 2 + min (s % 2) y) f g
-    ∙ ap (λ (x : ℕ). x * 2 + min (s % 2) 1) (and-all-but k (s / 2) j (omega arith) (omega arith))
-    ∙ let z = without-suc s j in omega arith
+    ∙ ap (λ (x : ℕ). x * 2 + min (s % 2) 1) (and-all_but k (s / 2) j (omega arith) (omega arith))
+    ∙ let z = without_suc s j in omega arith

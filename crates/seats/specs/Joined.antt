@@ -8,5 +8,5 @@ abbrev pub added : ℕ → ℕ → Bool → ℕ
 added set j so = cond so (bit_or set (2 ^ j)) set
 
 -- the seats below n that pass the test
-abbrev pub seatsWith : ℕ → (ℕ → Bool) → ℕ
-seatsWith n test = sum n (λ p. cond (test p) (2 ^ p) 0)
+abbrev pub seats_with : ℕ → (ℕ → Bool) → ℕ
+seats_with n test = sum n (λ p. cond (test p) (2 ^ p) 0)

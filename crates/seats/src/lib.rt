@@ -1,31 +1,31 @@
 // Sets of seats: seat j of 0 to 31 is in the set where binary digit j of the mask is 1.
 ghost use Rattle.std.specs.Prelude.{◌≡◌, leb};
-ghost use Rattle.seats.specs.Sets.{hasSeat, withoutSeat, fullSet, size_of};
+ghost use Rattle.seats.specs.Sets.{has_seat, without_seat, full_set, size_of};
 
 // Is seat j in the set?
 pub fn has(set: u32, j: usize) -> bool
-    ensures { result ≡ hasSeat set j }
+    ensures { result ≡ has_seat set j }
 {
     if j < 32 { (set >> j) % 2 == 1 } else { false }
 }
 
 // The set without seat j.
 pub fn without(set: u32, j: usize) -> u32
-    ensures { result ≡ withoutSeat set j }
+    ensures { result ≡ without_seat set j }
 {
     if j < 32 { set & !(1 << j) } else { set }
 }
 
 // The seats 0 to n - 1, or all 32 where n is larger.
 pub fn full(n: usize) -> u32
-    ensures { result ≡ fullSet n }
+    ensures { result ≡ full_set n }
 {
     if n < 32 { (1 << n) - 1 } else { 0xffff_ffff }
 }
 
 // Is no seat n or above in the set? The mask is widened, so that a shift by 32 is one like any other.
 pub fn within(set: u32, n: usize) -> bool
-    ensures { result ≡ leb set (fullSet n) }
+    ensures { result ≡ leb set (full_set n) }
 {
     if n < 64 {
         ((set as u64) >> n) == 0

@@ -6,28 +6,28 @@ use Prim.Native.Nat.{ℕ, ◌<◌}
 use native.Mathlib.Omega.{arith}
 use lib.Dec.{ltb}
 use borrow.Author.Tests.{ltb-true}
-use Rattle.limits.specs.Limits.{slotsMost}
+use Rattle.limits.specs.Limits.{slots_most}
 use Rattle.lists.proofs.Tests.{and-true}
 use Rattle.limits.specs.declared.Refusal.{Refusal}
 use Rattle.limits.specs.declared.Refusal.TheVariants.{OutsideLimits, MarkNotAbove, WrongMark}
-use Rattle.sheet.specs.Marks.{markWithin, ascends, allowed, markOffence}
+use Rattle.sheet.specs.Marks.{mark_within, ascends, allowed, mark_offence}
 use Rattle.sheet.specs.declared.Mark.{Mark}
 
 -- a mark without an offence keeps to all that a mark must keep to
 pub record Kept (n k : ℕ) (last m : Mark) : Type 0 where
-  pub time : m.time < slotsMost
+  pub time : m.time < slots_most
   pub seat : m.seat < n
   pub above : ascends k last m ≡ true
   pub allows : allowed n m ≡ true
 
-pub good-mark : (n k : ℕ) (last m : Mark) → markOffence n k last m ≡ none → Kept n k last m
-unfolding markOffence
-good-mark n k last m e = go (markWithin n m) (ascends k last m) (allowed n m) refl refl refl e
+pub good-mark : (n k : ℕ) (last m : Mark) → mark_offence n k last m ≡ none → Kept n k last m
+unfolding mark_offence
+good-mark n k last m e = go (mark_within n m) (ascends k last m) (allowed n m) refl refl refl e
   where
-    go : (a b c : Bool) → markWithin n m ≡ a → ascends k last m ≡ b → allowed n m ≡ c
+    go : (a b c : Bool) → mark_within n m ≡ a → ascends k last m ≡ b → allowed n m ≡ c
         → cond a (cond b (cond c none (some WrongMark)) (some MarkNotAbove)) (some OutsideLimits) ≡ none → Kept n k last m
     go true true true p q r h =
-        let b = and-true (ltb m.time slotsMost) (ltb m.seat n) p in
+        let b = and-true (ltb m.time slots_most) (ltb m.seat n) p in
         record { time = ltb-true _ _ b.0; seat = ltb-true _ _ b.1; above = q; allows = r }
     go true true false p q r h = let z : ◌≡◌ {A = ℕ} 0 1 = cc in absurd (omega arith)
     go true false c p q r h = let z : ◌≡◌ {A = ℕ} 0 1 = cc in absurd (omega arith)
@@ -35,9 +35,9 @@ good-mark n k last m e = go (markWithin n m) (ascends k last m) (allowed n m) re
 
 -- what is true of the three offences of a mark is true of the one it has
 pub mark-offence : (of : Refusal → Bool) → of OutsideLimits ≡ true → of MarkNotAbove ≡ true → of WrongMark ≡ true → (n k : ℕ) (last m : Mark) (why : Refusal)
-    → markOffence n k last m ≡ some why → of why ≡ true
-unfolding markOffence
-mark-offence of x y z n k last m why e = go (markWithin n m) (ascends k last m) (allowed n m) e
+    → mark_offence n k last m ≡ some why → of why ≡ true
+unfolding mark_offence
+mark-offence of x y z n k last m why e = go (mark_within n m) (ascends k last m) (allowed n m) e
   where
     go : (a b c : Bool) → cond a (cond b (cond c none (some WrongMark)) (some MarkNotAbove)) (some OutsideLimits) ≡ some why → of why ≡ true
     go true true true h = let f : ◌≡◌ {A = ℕ} 0 1 = cc in absurd (omega arith)

@@ -4,7 +4,7 @@ use Rattle.std.proofs.Math.Option.{Option, none, some}
 use Rattle.limits.specs.declared.Refusal.{Refusal}
 use Rattle.sheet_lines.specs.Found.{Found, found, offence}
 use Rattle.sheet.specs.Marks.{mark}
-use Rattle.sheet.specs.Sheets.{noSheet}
+use Rattle.sheet.specs.Sheets.{no_sheet}
 use Rattle.sheet.specs.declared.Mark.{Mark}
 use Rattle.sheet.specs.declared.Sheet.{Sheet}
 use Rattle.sheet_lines.specs.declared.Piece.{Piece}
@@ -22,14 +22,14 @@ beside a (piece.Offence why place) = offence why place
 abbrev pub fields_of : Line → Found Mark
 fields_of r = beside (mark r.time r.seat r.kind) r.end
 
-abbrev pub offenceOf : Check → Option Refusal
-offenceOf check.Good = none
-offenceOf (check.Bad why) = some why
+abbrev pub offence_of : Check → Option Refusal
+offence_of check.Good = none
+offence_of (check.Bad why) = some why
 
 -- what bytes are read as; no sheet stands beside an offence
-abbrev pub stoppedAt : Piece → Whole
-stoppedAt end = record { sheet = noSheet; end = end }
+abbrev pub stopped_at : Piece → Whole
+stopped_at end = record { sheet = no_sheet; end = end }
 
 abbrev pub whole_of : Found Sheet → Whole
 whole_of (found sheet end) = record { sheet = sheet; end = piece.Found sheet.slot_count end }
-whole_of (offence why place) = stoppedAt (piece.Offence why place)
+whole_of (offence why place) = stopped_at (piece.Offence why place)

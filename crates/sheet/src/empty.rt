@@ -1,18 +1,18 @@
 // A sheet without entries: what there is before a line is read, and where a sheet is refused.
 ghost use Rattle.std.specs.Prelude.{◌≡◌};
-ghost use Rattle.sheet.specs.Marks.{noMark};
-ghost use Rattle.sheet.specs.Sheets.{noModules, noMarks, noSlots, noSheet};
+ghost use Rattle.sheet.specs.Marks.{no_mark};
+ghost use Rattle.sheet.specs.Sheets.{no_modules, no_marks, no_slots, no_sheet};
 
 use crate::{Mark, Sheet};
 
 pub fn no_modules() -> [u16; limits::SEATS_MOST]
-    ensures { result ≡ noModules }
+    ensures { result ≡ no_modules }
 {
     [0u16; limits::SEATS_MOST]
 }
 
 pub fn no_mark() -> Mark
-    ensures { result ≡ noMark }
+    ensures { result ≡ no_mark }
 {
     Mark {
         time: 0,
@@ -22,20 +22,20 @@ pub fn no_mark() -> Mark
 }
 
 pub fn no_marks() -> [Mark; limits::MARKS_MOST]
-    ensures { result ≡ noMarks }
+    ensures { result ≡ no_marks }
 {
     [no_mark(); limits::MARKS_MOST]
 }
 
 pub fn no_slots() -> [u8; limits::SLOTS_MOST]
-    ensures { result ≡ noSlots }
+    ensures { result ≡ no_slots }
 {
     [0u8; limits::SLOTS_MOST]
 }
 
 // No seats, marks or slots, and all entries zero.
 pub fn no_sheet() -> Sheet
-    ensures { result ≡ noSheet }
+    ensures { result ≡ no_sheet }
 {
     Sheet {
         n: 0,

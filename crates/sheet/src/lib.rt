@@ -1,8 +1,8 @@
 // Run sheets: from any bytes whatever to a sheet value and an answer, as document 01 says under 'Run sheets'
 // and 'Refusal numbers'.
 ghost use Rattle.std.specs.Prelude.{◌≡◌};
-ghost use Rattle.sheet.specs.Sheets.{sheetIn, ReadPromise};
-ghost use Rattle.sheet.specs.Inside.{stoppedAt, whole_of};
+ghost use Rattle.sheet.specs.Sheets.{sheet_in, ReadPromise};
+ghost use Rattle.sheet.specs.Inside.{stopped_at, whole_of};
 
 use limits::Refusal;
 use sheet_lines::Piece;
@@ -54,7 +54,7 @@ struct Whole {
 
 // An offence ends the reading, and no part of a sheet is handed on.
 fn stopped(end: Piece) -> Whole
-    ensures { result ≡ stoppedAt end }
+    ensures { result ≡ stopped_at end }
 {
     Whole {
         sheet: empty::no_sheet(),
@@ -64,7 +64,7 @@ fn stopped(end: Piece) -> Whole
 
 // Ring, marks and slots, each a count and as many lines, and no bytes after them.
 fn sheet_in(bytes: &[u8]) -> Whole
-    ensures { result ≡ whole_of (sheetIn bytes.now) }
+    ensures { result ≡ whole_of (sheet_in bytes.now) }
 {
     let count = sheet_lines::line(bytes, 0, limits::SEATS_LEAST, limits::SEATS_MOST);
     let Piece::Found(n, first_module) = count else {

@@ -1,10 +1,10 @@
 // The lines of the second section: the marks.
 ghost use Rattle.std.specs.Prelude.{◌≡◌, ◌≤◌, ◌<◌};
-ghost use Rattle.limits.specs.Limits.{seatsMost, marksMost};
+ghost use Rattle.limits.specs.Limits.{seats_most, marks_most};
 ghost use Rattle.sheet.specs.Entries.{entries_at};
-ghost use Rattle.sheet.specs.Marks.{mark, noMark, ascends, allowed, markOffence, fields_at, markLine};
-ghost use Rattle.sheet.specs.Sheets.{noMarks};
-ghost use Rattle.sheet.specs.Inside.{beside, fields_of, offenceOf};
+ghost use Rattle.sheet.specs.Marks.{mark, no_mark, ascends, allowed, mark_offence, fields_at, mark_line};
+ghost use Rattle.sheet.specs.Sheets.{no_marks};
+ghost use Rattle.sheet.specs.Inside.{beside, fields_of, offence_of};
 
 use crate::{Mark, empty};
 use limits::Refusal;
@@ -34,7 +34,7 @@ pub struct Marks {
 
 // What stands beside an offence is not looked at.
 fn no_line(end: Piece) -> Line
-    ensures { fields_of result ≡ beside noMark end }
+    ensures { fields_of result ≡ beside no_mark end }
 {
     Line {
         time: 0,
@@ -105,7 +105,7 @@ fn is_allowed(n: usize, time: usize, seat: usize, kind: u8) -> bool
 // The first offence of mark k after the last one: 3, then 5, then 6.
 fn first_offence(n: usize, k: usize, last: Mark, time: usize, seat: usize, kind: u8) -> Check
     requires { 0 < n }
-    ensures { offenceOf result ≡ markOffence n k last (mark time seat kind) }
+    ensures { offence_of result ≡ mark_offence n k last (mark time seat kind) }
 {
     if limits::SLOTS_MOST <= time {
         return Check::Bad(Refusal::OutsideLimits);
@@ -124,8 +124,8 @@ fn first_offence(n: usize, k: usize, last: Mark, time: usize, seat: usize, kind:
 
 // So many mark lines from `start` on, of a ring of n seats.
 pub fn mark_lines(s: &[u8], start: usize, n: usize, count: usize) -> Marks
-    requires { (count ≤ marksMost) × (0 < n) × (n ≤ seatsMost) }
-    ensures { beside result.list result.end ≡ entries_at (markLine n s.now) noMarks count start }
+    requires { (count ≤ marks_most) × (0 < n) × (n ≤ seats_most) }
+    ensures { beside result.list result.end ≡ entries_at (mark_line n s.now) no_marks count start }
 {
     let mut list = empty::no_marks();
     let mut last = empty::no_mark();

@@ -1,8 +1,8 @@
 // The lines of the first section: the module numbers, all different.
 ghost use Rattle.std.specs.Prelude.{◌≡◌, ◌≤◌};
-ghost use Rattle.limits.specs.Limits.{seatsMost};
-ghost use Rattle.sheet.specs.Entries.{entries_at, moduleLine};
-ghost use Rattle.sheet.specs.Sheets.{noModules};
+ghost use Rattle.limits.specs.Limits.{seats_most};
+ghost use Rattle.sheet.specs.Entries.{entries_at, module_line};
+ghost use Rattle.sheet.specs.Sheets.{no_modules};
 ghost use Rattle.sheet.specs.Inside.{beside};
 
 use crate::empty;
@@ -18,8 +18,8 @@ pub struct Modules {
 
 // So many module lines from `start` on.
 pub fn module_lines(s: &[u8], start: usize, count: usize) -> Modules
-    requires { count ≤ seatsMost }
-    ensures { beside result.list result.end ≡ entries_at (moduleLine s.now) noModules count start }
+    requires { count ≤ seats_most }
+    ensures { beside result.list result.end ≡ entries_at (module_line s.now) no_modules count start }
 {
     let mut list = empty::no_modules();
     let mut at = start;

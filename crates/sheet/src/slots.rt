@@ -1,8 +1,8 @@
 // The lines of the third section: what the bus recorder heard.
 ghost use Rattle.std.specs.Prelude.{◌≡◌, ◌≤◌};
-ghost use Rattle.limits.specs.Limits.{slotsMost};
-ghost use Rattle.sheet.specs.Entries.{entries_at, slotLine};
-ghost use Rattle.sheet.specs.Sheets.{noSlots};
+ghost use Rattle.limits.specs.Limits.{slots_most};
+ghost use Rattle.sheet.specs.Entries.{entries_at, slot_line};
+ghost use Rattle.sheet.specs.Sheets.{no_slots};
 ghost use Rattle.sheet.specs.Inside.{beside};
 
 use crate::empty;
@@ -16,8 +16,8 @@ pub struct Slots {
 
 // So many slot lines from `start` on.
 pub fn slot_lines(s: &[u8], start: usize, count: usize) -> Slots
-    requires { count ≤ slotsMost }
-    ensures { beside result.list result.end ≡ entries_at (slotLine s.now) noSlots count start }
+    requires { count ≤ slots_most }
+    ensures { beside result.list result.end ≡ entries_at (slot_line s.now) no_slots count start }
 {
     let mut list = empty::no_slots();
     let mut at = start;

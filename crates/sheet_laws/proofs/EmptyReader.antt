@@ -4,11 +4,11 @@ use mathlib.Core.List.{List, [], ◌∷◌}
 use mathlib.Core.Path.{◌≡◌, refl, sym, ap, ◌∙◌}
 use Prim.Native.Nat.{ℕ}
 use Rattle.limits.specs.Refusals.{done, refused}
-use Rattle.sheet_lines.specs.Bytes.{byte_at, digitsAt, number_at}
-use Rattle.sheet_lines.specs.Lines.{end_at, ended, line_at, spacedAt}
-use Rattle.sheet.specs.Entries.{linesAt, isNew, moduleLine, slotLine}
-use Rattle.sheet.specs.Marks.{markOffence, fields_at, markLine}
-use Rattle.sheet.specs.Sheets.{noModules, noMarks, noSlots, sheetIn, readTells, readTold}
+use Rattle.sheet_lines.specs.Bytes.{byte_at, digits_at, number_at}
+use Rattle.sheet_lines.specs.Lines.{end_at, ended, line_at, spaced_at}
+use Rattle.sheet.specs.Entries.{lines_at, is_new, module_line, slot_line}
+use Rattle.sheet.specs.Marks.{mark_offence, fields_at, mark_line}
+use Rattle.sheet.specs.Sheets.{no_modules, no_marks, no_slots, sheet_in, read_tells, read_told}
 use Rattle.sheet.specs.declared.Reading.{Reading}
 use Rattle.limits.proofs.Refusals.{not_done}
 use Rattle.sheet_laws.specs.EmptyReader.{Reader, Keeps, RefusesAll, Constant}
@@ -23,18 +23,18 @@ ShutOut Kind = (f : Reader) → Kind f → Keeps f → ⊥
 good : List ℕ
 good = 50 ∷ 10 ∷ 55 ∷ 10 ∷ 56 ∷ 10 ∷ 48 ∷ 10 ∷ 48 ∷ 10 ∷ []
 
-good-read : readTold (sheetIn good) ≡ done
-unfolding good sheetIn linesAt moduleLine isNew slotLine markLine fields_at spacedAt markOffence line_at ended end_at number_at digitsAt byte_at noModules noMarks noSlots
+good-read : read_told (sheet_in good) ≡ done
+unfolding good sheet_in lines_at module_line is_new slot_line mark_line fields_at spaced_at mark_offence line_at ended end_at number_at digits_at byte_at no_modules no_marks no_slots
 good-read = refl
 
-empty-refused : readTold (sheetIn []) ≡ refused 1 0
-unfolding sheetIn line_at ended end_at number_at digitsAt byte_at noModules
+empty-refused : read_told (sheet_in []) ≡ refused 1 0
+unfolding sheet_in line_at ended end_at number_at digits_at byte_at no_modules
 empty-refused = refl
 
 -- ---- the theorems
 
-pub refuses-all-read : ShutOut RefusesAll
-refuses-all-read f all keeps =
+pub refuses_all-read : ShutOut RefusesAll
+refuses_all-read f all keeps =
     let x = all good in
     not_done (sym x.2 ∙ (keeps good).answer ∙ good-read)
 
@@ -42,5 +42,5 @@ pub constant-read : ShutOut Constant
 constant-read f (r, same) keeps =
     not_done
     (sym ((keeps []).answer ∙ empty-refused)
-    ∙ ap (λ (x : Reading). readTells x.answer) (same [] ∙ sym (same good))
+    ∙ ap (λ (x : Reading). read_tells x.answer) (same [] ∙ sym (same good))
     ∙ (keeps good).answer ∙ good-read)

@@ -10,11 +10,11 @@ use native.Mathlib.Omega.{arith}
 use lib.ListN.{length, get_or}
 use lib.Dec.{ltb, eqb}
 use borrow.Author.Tests.{lt-ltb, ltb-true}
-use Rattle.limits.specs.Refusals.{number_of, ofLine}
+use Rattle.limits.specs.Refusals.{number_of, of_line}
 use Rattle.limits.specs.declared.Refusal.{Refusal}
 use Rattle.limits.specs.declared.Refusal.TheVariants.{EndsEarly, WrongByte}
-use Rattle.sheet_lines.specs.Found.{Found, found, offence, onFound, and_then}
-use Rattle.sheet_lines.specs.Bytes.{isDigit, byte_at, digitsAt, number_at}
+use Rattle.sheet_lines.specs.Found.{Found, found, offence, on_found, and_then}
+use Rattle.sheet_lines.specs.Bytes.{is_digit, byte_at, digits_at, number_at}
 use Rattle.sheet_lines.proofs.ByteLaws.{not-both, byte-found}
 use Rattle.sheet_lines.proofs.LineLaws.{found-next, then_found}
 use Rattle.sheet_laws.specs.Sight.{Same, Stopped}
@@ -56,8 +56,8 @@ through next = next + 1
 pub near : (n : ℕ) → n ≤ before n
 near n = le_refl n
 
-pub next-to : (n : ℕ) → n ≤ through n
-next-to n = omega arith
+pub next_to : (n : ℕ) → n ≤ through n
+next_to n = omega arith
 
 -- one reader after another
 module _ {A B : Type 0} (from : ℕ) (read : List ℕ → Found A) (more : A → ℕ → List ℕ → Found B) (s : List ℕ) (reach : ℕ → ℕ) (far : (n : ℕ) → n ≤ reach n)
@@ -114,7 +114,7 @@ module _ {A B : Type 0} (from : ℕ) (read : List ℕ → Found A) (more : A →
 
 -- what no sheet can change any more
 pub settled : {A : Type 0} (s : List ℕ) (n : ℕ) (answer : Found A) → n ≤ length s → ((a : A) (next : ℕ) → answer ≡ found a next → next ≡ n)
-    → ((why : Refusal) (place : ℕ) → answer ≡ offence why place → (place < n) × (ofLine why ≡ true)) → Sees n (λ t. answer) s before
+    → ((why : Refusal) (place : ℕ) → answer ≡ offence why place → (place < n) × (of_line why ≡ true)) → Sees n (λ t. answer) s before
 settled s n answer l f g =
     record {
       stops =
@@ -127,7 +127,7 @@ settled s n answer l f g =
                   after = le_refl n;
                   past = q.0;
                   inside = l;
-                  here = ⊎_elim (λ y. absurd (false≢true (sym (ap ofLine y) ∙ q.1))) (λ y. absurd (false≢true (sym (ap ofLine y) ∙ q.1)));
+                  here = ⊎_elim (λ y. absurd (false≢true (sym (ap of_line y) ∙ q.1))) (λ y. absurd (false≢true (sym (ap of_line y) ∙ q.1)));
                   alike = λ t w. e;
                 };
           };
@@ -139,7 +139,7 @@ pub rests : {A : Type 0} (s : List ℕ) (n : ℕ) (a : A) → n ≤ length s →
 rests s n a l = settled s n (found a n) l (λ b next e. sym (found-next e)) (λ why place e. not-both why (sym e))
 
 -- a test of a whole line
-pub tests : {A : Type 0} (s : List ℕ) (n : ℕ) (ok : Bool) (a : A) (why : Refusal) (place : ℕ) → n ≤ length s → place + 1 ≤ n → ofLine why ≡ true
+pub tests : {A : Type 0} (s : List ℕ) (n : ℕ) (ok : Bool) (a : A) (why : Refusal) (place : ℕ) → n ≤ length s → place + 1 ≤ n → of_line why ≡ true
     → Sees n (λ t. cond ok (found a n) (offence why place)) s before
 tests s n true a why place l p o = rests s n a l
 tests s n false a why place l p o =
@@ -200,18 +200,18 @@ byte-sees can s at =
           record { after = omega arith; inside = omega arith; alike = λ t w. byte-same can s t at next w (omega arith) ∙ e };
     }
 
-digits-goes : (k v : ℕ) (s : List ℕ) (at w next : ℕ) → at ≤ length s → digitsAt k v s at ≡ found w next → Goes at (λ t. digitsAt k v t at) s through w next
-unfolding digitsAt
+digits-goes : (k v : ℕ) (s : List ℕ) (at w next : ℕ) → at ≤ length s → digits_at k v s at ≡ found w next → Goes at (λ t. digits_at k v t at) s through w next
+unfolding digits_at
 digits-goes zero v s at w next l e = let q = found-next e in record { after = omega arith; inside = omega arith; alike = λ t x. e }
 digits-goes (suc k) v s at w next l e =
-    go (λ digit n. digits-goes k (v * 10 + (digit - 48)) s n w next) (byte_at isDigit s at) refl e
+    go (λ digit n. digits-goes k (v * 10 + (digit - 48)) s n w next) (byte_at is_digit s at) refl e
   where
-    go : ((digit n : ℕ) → n ≤ length s → digitsAt k (v * 10 + (digit - 48)) s n ≡ found w next → Goes n (λ t. digitsAt k (v * 10 + (digit - 48)) t n) s through w next)
-        → (x : Found ℕ) → byte_at isDigit s at ≡ x
-        → onFound x (λ digit n. digitsAt k (v * 10 + (digit - 48)) s n) (λ why place. found v at) ≡ found w next
-        → Goes at (λ t. onFound (byte_at isDigit t at) (λ digit n. digitsAt k (v * 10 + (digit - 48)) t n) (λ why place. found v at)) s through w next
+    go : ((digit n : ℕ) → n ≤ length s → digits_at k (v * 10 + (digit - 48)) s n ≡ found w next → Goes n (λ t. digits_at k (v * 10 + (digit - 48)) t n) s through w next)
+        → (x : Found ℕ) → byte_at is_digit s at ≡ x
+        → on_found x (λ digit n. digits_at k (v * 10 + (digit - 48)) s n) (λ why place. found v at) ≡ found w next
+        → Goes at (λ t. on_found (byte_at is_digit t at) (λ digit n. digits_at k (v * 10 + (digit - 48)) t n) (λ why place. found v at)) s through w next
     go rest (found digit n) p h =
-        let b = byte-found isDigit s at digit n p in
+        let b = byte-found is_digit s at digit n p in
         let i = b.inside in
         let j = b.past in
         let q = rest digit n (omega arith) h in
@@ -219,55 +219,55 @@ digits-goes (suc k) v s at w next l e =
         record {
           after = omega arith;
           inside = q.inside;
-          alike = λ t x. rw (byte-same isDigit s t at (next + 1) x (omega arith) ∙ p) (q.alike t x);
+          alike = λ t x. rw (byte-same is_digit s t at (next + 1) x (omega arith) ∙ p) (q.alike t x);
         }
     go rest (offence why place) p h =
         let q = found-next h in
         record {
           after = omega arith;
           inside = omega arith;
-          alike = λ t x. rw (byte-same isDigit s t at (next + 1) x (omega arith) ∙ p) h;
+          alike = λ t x. rw (byte-same is_digit s t at (next + 1) x (omega arith) ∙ p) h;
         }
 
 -- digits offend against nothing
-digits-fine : (k v : ℕ) (s : List ℕ) (at : ℕ) (why : Refusal) (place : ℕ) → digitsAt k v s at ≡ offence why place → ⊥
-unfolding digitsAt
+digits-fine : (k v : ℕ) (s : List ℕ) (at : ℕ) (why : Refusal) (place : ℕ) → digits_at k v s at ≡ offence why place → ⊥
+unfolding digits_at
 digits-fine zero v s at why place e = not-both why (sym e)
-digits-fine (suc k) v s at why place e = go (λ digit n. digits-fine k (v * 10 + (digit - 48)) s n why place) (byte_at isDigit s at) e
+digits-fine (suc k) v s at why place e = go (λ digit n. digits-fine k (v * 10 + (digit - 48)) s n why place) (byte_at is_digit s at) e
   where
-    go : ((digit n : ℕ) → digitsAt k (v * 10 + (digit - 48)) s n ≡ offence why place → ⊥)
-        → (x : Found ℕ) → onFound x (λ digit n. digitsAt k (v * 10 + (digit - 48)) s n) (λ why place. found v at) ≡ offence why place → ⊥
+    go : ((digit n : ℕ) → digits_at k (v * 10 + (digit - 48)) s n ≡ offence why place → ⊥)
+        → (x : Found ℕ) → on_found x (λ digit n. digits_at k (v * 10 + (digit - 48)) s n) (λ why place. found v at) ≡ offence why place → ⊥
     go rest (found digit n) h = rest digit n h
     go rest (offence x y) h = not-both why (sym h)
 
 abbrev rest : ℕ → ℕ → List ℕ → Found ℕ
-rest digit n t = cond (eqb digit 48) (found 0 n) (digitsAt 4 (digit - 48) t n)
+rest digit n t = cond (eqb digit 48) (found 0 n) (digits_at 4 (digit - 48) t n)
 
 pub number-sees : (s : List ℕ) (at : ℕ) → Sees (at + 1) (λ t. number_at t at) s through
 unfolding number_at
 number-sees s at =
     record {
       stops =
-          then-stops (at + 1) (λ t. byte_at isDigit t at) rest s before near (byte-sees isDigit s at)
+          then-stops (at + 1) (λ t. byte_at is_digit t at) rest s before near (byte-sees is_digit s at)
           (λ digit n p l.
           record {
             early = λ place e. absurd (fine digit n (eqb digit 48) EndsEarly place e);
             other = λ why place x e. absurd (fine digit n (eqb digit 48) why place e);
           });
       goes = λ v next e.
-          let p = then_found (byte_at isDigit s at) (λ digit n. rest digit n s) v next e in
-          let o = (byte-sees isDigit s at).goes p.0 p.1 p.2 in
+          let p = then_found (byte_at is_digit s at) (λ digit n. rest digit n s) v next e in
+          let o = (byte-sees is_digit s at).goes p.0 p.1 p.2 in
           let a = o.after in
           let q = goes p.0 p.1 v next o.inside (eqb p.0 48) p.3 in
           let m = q.after in
           record { after = omega arith; inside = q.inside; alike = λ t w. rw (o.alike t (fewer (omega arith) w)) (q.alike t w) };
     }
   where
-    fine : (digit n : ℕ) (b : Bool) (why : Refusal) (place : ℕ) → cond b (found 0 n) (digitsAt 4 (digit - 48) s n) ≡ offence why place → ⊥
+    fine : (digit n : ℕ) (b : Bool) (why : Refusal) (place : ℕ) → cond b (found 0 n) (digits_at 4 (digit - 48) s n) ≡ offence why place → ⊥
     fine digit n true why place e = not-both why (sym e)
     fine digit n false why place e = digits-fine 4 (digit - 48) s n why place e
 
-    goes : (digit n v next : ℕ) → n ≤ length s → (b : Bool) → cond b (found 0 n) (digitsAt 4 (digit - 48) s n) ≡ found v next
-        → Goes n (λ t. cond b (found 0 n) (digitsAt 4 (digit - 48) t n)) s through v next
+    goes : (digit n v next : ℕ) → n ≤ length s → (b : Bool) → cond b (found 0 n) (digits_at 4 (digit - 48) s n) ≡ found v next
+        → Goes n (λ t. cond b (found 0 n) (digits_at 4 (digit - 48) t n)) s through v next
     goes digit n v next l true e = let q = found-next e in record { after = omega arith; inside = omega arith; alike = λ t w. e }
     goes digit n v next l false e = digits-goes 4 (digit - 48) s n v next l e

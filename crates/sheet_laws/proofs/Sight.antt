@@ -11,29 +11,29 @@ use native.Mathlib.Omega.{arith}
 use lib.ListN.{length, get_or, set, length-append, get_or-append}
 use lib.Dec.{ltb}
 use borrow.Author.Tests.{lt-ltb, ltb-true}
-use Rattle.limits.specs.Limits.{seatsLeast, seatsMost, marksMost, slotsMost, moduleMost}
-use Rattle.limits.specs.Refusals.{number_of, ofLine}
+use Rattle.limits.specs.Limits.{seats_least, seats_most, marks_most, slots_most, module_most}
+use Rattle.limits.specs.Refusals.{number_of, of_line}
 use Rattle.limits.specs.declared.Refusal.{Refusal}
 use Rattle.limits.specs.declared.Refusal.TheVariants.{EndsEarly, WrongByte, OutsideLimits, ModuleTwice, BytesAfter}
 use Rattle.sheet_lines.specs.Found.{Found, found, offence, and_then}
-use Rattle.sheet_lines.specs.Bytes.{isSpace, isLineFeed, isKind, isHeard, byte_at, number_at}
-use Rattle.sheet_lines.specs.Lines.{end_at, ended, within, line_at, spacedAt}
-use Rattle.sheet.specs.Entries.{linesAt, countLine, entries_at, isNew, moduleLine, slotLine}
-use Rattle.sheet.specs.Marks.{mark, noMark, markOffence, onOption, fields_at, markLine}
-use Rattle.sheet.specs.Sheets.{noModules, noMarks, noSlots, sheetFrom, sheetIn}
+use Rattle.sheet_lines.specs.Bytes.{is_space, is_line_feed, is_kind, is_heard, byte_at, number_at}
+use Rattle.sheet_lines.specs.Lines.{end_at, ended, within, line_at, spaced_at}
+use Rattle.sheet.specs.Entries.{lines_at, count_line, entries_at, is_new, module_line, slot_line}
+use Rattle.sheet.specs.Marks.{mark, no_mark, mark_offence, on_option, fields_at, mark_line}
+use Rattle.sheet.specs.Sheets.{no_modules, no_marks, no_slots, sheet_from, sheet_in}
 use Rattle.sheet.specs.declared.Mark.{Mark}
 use Rattle.sheet.specs.declared.Sheet.{Sheet}
 use Rattle.sheet_lines.proofs.ByteLaws.{not-both}
 use Rattle.sheet.proofs.MarkLaws.{mark-offence}
 use Rattle.sheet_laws.specs.Sight.{Same, Stopped}
-use Rattle.sheet_laws.proofs.Readers.{fewer, Stops, Sees, before, through, near, next-to, then-stops, then-sees, rests, tests, later, byte-sees, number-sees}
+use Rattle.sheet_laws.proofs.Readers.{fewer, Stops, Sees, before, through, near, next_to, then-stops, then-sees, rests, tests, later, byte-sees, number-sees}
 
 -- ---- lines
 
 end-sees : (s : List ℕ) (at : ℕ) → Sees (at + 1) (λ t. end_at t at) s before
 unfolding end_at
 end-sees s at =
-    then-sees (at + 1) (λ t. byte_at isLineFeed t at) (λ feed n t. found 1 n) s before near (byte-sees isLineFeed s at) (λ feed n e l. rests s n 1 l)
+    then-sees (at + 1) (λ t. byte_at is_line_feed t at) (λ feed n t. found 1 n) s before near (byte-sees is_line_feed s at) (λ feed n e l. rests s n 1 l)
 
 -- a value whose line ends behind it
 ending : (s : List ℕ) (at value : ℕ) → Sees (at + 1) (λ t. and_then (end_at t at) (λ took n. found value n)) s before
@@ -42,14 +42,14 @@ ending s at value = then-sees (at + 1) (λ t. end_at t at) (λ took n t. found v
 number-line-sees : (s : List ℕ) (at : ℕ) → Sees (at + 1) (λ t. ended t (number_at t at)) s before
 unfolding ended
 number-line-sees s at =
-    then-sees (at + 1) (λ t. number_at t at) (λ value a t. and_then (end_at t a) (λ took n. found value n)) s through next-to (number-sees s at)
+    then-sees (at + 1) (λ t. number_at t at) (λ value a t. and_then (end_at t a) (λ took n. found value n)) s through next_to (number-sees s at)
     (λ value a e l. ending s a value)
 
 byte-line-sees : (can : ℕ → Bool) (s : List ℕ) (at : ℕ) → Sees (at + 1) (λ t. ended t (byte_at can t at)) s before
 unfolding ended
 byte-line-sees can s at =
     then-sees (at + 1) (λ t. byte_at can t at) (λ value a t. and_then (end_at t a) (λ took n. found value n)) s before near (byte-sees can s at)
-    (λ value a e l. later (next-to a) (ending s a value))
+    (λ value a e l. later (next_to a) (ending s a value))
 
 line-sees : (least most : ℕ) (s : List ℕ) (at : ℕ) → Sees (at + 1) (λ t. line_at least most t at) s before
 unfolding line_at
@@ -58,63 +58,63 @@ line-sees least most s at =
     (number-line-sees s at)
     (λ value n e l. tests s n (within least most value) value OutsideLimits at l ((number-line-sees s at).goes value n e).after refl)
 
-module-sees : (s : List ℕ) (at k : ℕ) (modules : List ℕ) → Sees (at + 1) (λ t. moduleLine t at k modules) s before
-unfolding moduleLine
-module-sees s at k modules =
-    then-sees (at + 1) (λ t. line_at 1 moduleMost t at) (λ number n t. cond (isNew number k modules) (found (set modules k number) n) (offence ModuleTwice at)) s
-    before near (line-sees 1 moduleMost s at)
+module_sees : (s : List ℕ) (at k : ℕ) (modules : List ℕ) → Sees (at + 1) (λ t. module_line t at k modules) s before
+unfolding module_line
+module_sees s at k modules =
+    then-sees (at + 1) (λ t. line_at 1 module_most t at) (λ number n t. cond (is_new number k modules) (found (set modules k number) n) (offence ModuleTwice at)) s
+    before near (line-sees 1 module_most s at)
     (λ number n e l.
-    tests s n (isNew number k modules) (set modules k number) ModuleTwice at l ((line-sees 1 moduleMost s at).goes number n e).after refl)
+    tests s n (is_new number k modules) (set modules k number) ModuleTwice at l ((line-sees 1 module_most s at).goes number n e).after refl)
 
-slot-sees : (s : List ℕ) (at k : ℕ) (slots : List ℕ) → Sees (at + 1) (λ t. slotLine t at k slots) s before
-unfolding slotLine
+slot-sees : (s : List ℕ) (at k : ℕ) (slots : List ℕ) → Sees (at + 1) (λ t. slot_line t at k slots) s before
+unfolding slot_line
 slot-sees s at k slots =
-    then-sees (at + 1) (λ t. ended t (byte_at isHeard t at)) (λ heard n t. found (set slots k heard) n) s before near (byte-line-sees isHeard s at)
+    then-sees (at + 1) (λ t. ended t (byte_at is_heard t at)) (λ heard n t. found (set slots k heard) n) s before near (byte-line-sees is_heard s at)
     (λ heard n e l. rests s n (set slots k heard) l)
 
-spaced-sees : (s : List ℕ) (at : ℕ) → Sees (at + 1) (λ t. spacedAt t at) s before
-unfolding spacedAt
+spaced-sees : (s : List ℕ) (at : ℕ) → Sees (at + 1) (λ t. spaced_at t at) s before
+unfolding spaced_at
 spaced-sees s at =
-    then-sees (at + 1) (λ t. number_at t at) (λ value a t. and_then (byte_at isSpace t a) (λ space n. found value n)) s through next-to (number-sees s at)
+    then-sees (at + 1) (λ t. number_at t at) (λ value a t. and_then (byte_at is_space t a) (λ space n. found value n)) s through next_to (number-sees s at)
     (λ value a e l.
-    then-sees (a + 1) (λ t. byte_at isSpace t a) (λ space n t. found value n) s before near (byte-sees isSpace s a) (λ space n e l. rests s n value l))
+    then-sees (a + 1) (λ t. byte_at is_space t a) (λ space n t. found value n) s before near (byte-sees is_space s a) (λ space n e l. rests s n value l))
 
 fields-sees : (s : List ℕ) (at : ℕ) → Sees (at + 1) (λ t. fields_at t at) s before
 unfolding fields_at
 fields-sees s at =
-    then-sees (at + 1) (λ t. spacedAt t at)
-    (λ time a t. and_then (spacedAt t a) (λ seat b. and_then (ended t (byte_at isKind t b)) (λ kind n. found (mark time seat kind) n))) s before near
+    then-sees (at + 1) (λ t. spaced_at t at)
+    (λ time a t. and_then (spaced_at t a) (λ seat b. and_then (ended t (byte_at is_kind t b)) (λ kind n. found (mark time seat kind) n))) s before near
     (spaced-sees s at)
     (λ time a e l.
-    later (next-to a)
-    (then-sees (a + 1) (λ t. spacedAt t a) (λ seat b t. and_then (ended t (byte_at isKind t b)) (λ kind n. found (mark time seat kind) n)) s before near
+    later (next_to a)
+    (then-sees (a + 1) (λ t. spaced_at t a) (λ seat b t. and_then (ended t (byte_at is_kind t b)) (λ kind n. found (mark time seat kind) n)) s before near
     (spaced-sees s a)
     (λ seat b e l.
-    later (next-to b)
-    (then-sees (b + 1) (λ t. ended t (byte_at isKind t b)) (λ kind n t. found (mark time seat kind) n) s before near (byte-line-sees isKind s b)
+    later (next_to b)
+    (then-sees (b + 1) (λ t. ended t (byte_at is_kind t b)) (λ kind n t. found (mark time seat kind) n) s before near (byte-line-sees is_kind s b)
     (λ kind n e l. rests s n (mark time seat kind) l)))))
 
-mark-sees : (n : ℕ) (s : List ℕ) (at k : ℕ) (marks : List Mark) → Sees (at + 1) (λ t. markLine n t at k marks) s before
-unfolding markLine
+mark-sees : (n : ℕ) (s : List ℕ) (at k : ℕ) (marks : List Mark) → Sees (at + 1) (λ t. mark_line n t at k marks) s before
+unfolding mark_line
 mark-sees n s at k marks =
     then-sees (at + 1) (λ t. fields_at t at)
-    (λ m next t. onOption (markOffence n k (get_or marks (k - 1) noMark) m) (found (set marks k m) next) (λ why. offence why at)) s before near (fields-sees s at)
-    (λ m next e l. go m next l ((fields-sees s at).goes m next e).after (markOffence n k (get_or marks (k - 1) noMark) m) refl)
+    (λ m next t. on_option (mark_offence n k (get_or marks (k - 1) no_mark) m) (found (set marks k m) next) (λ why. offence why at)) s before near (fields-sees s at)
+    (λ m next e l. go m next l ((fields-sees s at).goes m next e).after (mark_offence n k (get_or marks (k - 1) no_mark) m) refl)
   where
-    go : (m : Mark) (next : ℕ) → next ≤ length s → at + 1 ≤ next → (o : Option Refusal) → markOffence n k (get_or marks (k - 1) noMark) m ≡ o
-        → Sees next (λ t. onOption o (found (set marks k m) next) (λ why. offence why at)) s before
+    go : (m : Mark) (next : ℕ) → next ≤ length s → at + 1 ≤ next → (o : Option Refusal) → mark_offence n k (get_or marks (k - 1) no_mark) m ≡ o
+        → Sees next (λ t. on_option o (found (set marks k m) next) (λ why. offence why at)) s before
     go m next l p none q = rests s next (set marks k m) l
-    go m next l p (some why) q = tests s next false (set marks k m) why at l p (mark-offence ofLine refl refl refl n k (get_or marks (k - 1) noMark) m why q)
+    go m next l p (some why) q = tests s next false (set marks k m) why at l p (mark-offence of_line refl refl refl n k (get_or marks (k - 1) no_mark) m why q)
 
 -- ---- so many lines
 
 module _ {A : Type 0} (line : List ℕ → ℕ → ℕ → List A → Found (List A)) (s : List ℕ) (one : (at k : ℕ) (entries : List A) → Sees (at + 1) (λ t. line t at k entries) s before) where
-  lines-see : (more at k : ℕ) (entries : List A) → at ≤ length s → Sees at (λ t. linesAt (line t) more at k entries) s before
-  unfolding linesAt
-  lines-see zero at k entries l = rests s at entries l
-  lines-see (suc more) at k entries l =
-      then-sees at (λ t. line t at k entries) (λ entries n t. linesAt (line t) more n (k + 1) entries) s before near (later (next-to at) (one at k entries))
-      (λ entries n e l. lines-see more n (k + 1) entries l)
+  lines_see : (more at k : ℕ) (entries : List A) → at ≤ length s → Sees at (λ t. lines_at (line t) more at k entries) s before
+  unfolding lines_at
+  lines_see zero at k entries l = rests s at entries l
+  lines_see (suc more) at k entries l =
+      then-sees at (λ t. line t at k entries) (λ entries n t. lines_at (line t) more n (k + 1) entries) s before near (later (next_to at) (one at k entries))
+      (λ entries n e l. lines_see more n (k + 1) entries l)
 
 -- ---- the sheet
 
@@ -142,36 +142,36 @@ last-stops s end sheet =
     other why place false p h = not-both why (sym h)
 
 -- a count, and the lines after it
-count-sees : (least most : ℕ) (s : List ℕ) (at : ℕ) → Sees at (λ t. countLine least most t at) s before
-count-sees least most s at = later (next-to at) (line-sees least most s at)
+count-sees : (least most : ℕ) (s : List ℕ) (at : ℕ) → Sees at (λ t. count_line least most t at) s before
+count-sees least most s at = later (next_to at) (line-sees least most s at)
 
-sheet-stops : (s : List ℕ) → Stops 0 sheetIn s
-unfolding sheetIn
+sheet-stops : (s : List ℕ) → Stops 0 sheet_in s
+unfolding sheet_in
 sheet-stops s =
-    then-stops 0 (λ t. countLine seatsLeast seatsMost t 0) _ s before near (count-sees seatsLeast seatsMost s 0)
+    then-stops 0 (λ t. count_line seats_least seats_most t 0) _ s before near (count-sees seats_least seats_most s 0)
     (λ n a e l.
-    then-stops a (λ t. entries_at (moduleLine t) noModules n a) _ s before near (lines-see moduleLine s (module-sees s) n a 0 noModules l)
+    then-stops a (λ t. entries_at (module_line t) no_modules n a) _ s before near (lines_see module_line s (module_sees s) n a 0 no_modules l)
     (λ modules b e l.
-    then-stops b (λ t. countLine 0 marksMost t b) _ s before near (count-sees 0 marksMost s b)
+    then-stops b (λ t. count_line 0 marks_most t b) _ s before near (count-sees 0 marks_most s b)
     (λ markCount c e l.
-    then-stops c (λ t. entries_at (markLine n t) noMarks markCount c) _ s before near (lines-see (markLine n) s (mark-sees n s) markCount c 0 noMarks l)
+    then-stops c (λ t. entries_at (mark_line n t) no_marks markCount c) _ s before near (lines_see (mark_line n) s (mark-sees n s) markCount c 0 no_marks l)
     (λ marks d e l.
-    then-stops d (λ t. countLine 0 slotsMost t d) _ s before near (count-sees 0 slotsMost s d)
+    then-stops d (λ t. count_line 0 slots_most t d) _ s before near (count-sees 0 slots_most s d)
     (λ slotCount f e l.
-    then-stops f (λ t. entries_at (slotLine t) noSlots slotCount f) _ s before near (lines-see slotLine s (slot-sees s) slotCount f 0 noSlots l)
-    (λ slots end e l. last-stops s end (sheetFrom n modules markCount marks slotCount slots)))))))
+    then-stops f (λ t. entries_at (slot_line t) no_slots slotCount f) _ s before near (lines_see slot_line s (slot-sees s) slotCount f 0 no_slots l)
+    (λ slots end e l. last-stops s end (sheet_from n modules markCount marks slotCount slots)))))))
 
 -- 1 is given at the sheet's length
-pub refused-early : (s : List ℕ) (place : ℕ) → sheetIn s ≡ offence EndsEarly place → place ≡ length s
+pub refused-early : (s : List ℕ) (place : ℕ) → sheet_in s ≡ offence EndsEarly place → place ≡ length s
 refused-early s place e = (sheet-stops s).early place e
 
 -- 2 to 7: the sheet is refused alike whatever stands after the bytes that were seen
-pub refused-alike : (s : List ℕ) (why : Refusal) (place : ℕ) → (why ≡ EndsEarly → ⊥) → sheetIn s ≡ offence why place → Stopped 0 sheetIn s why place
+pub refused-alike : (s : List ℕ) (why : Refusal) (place : ℕ) → (why ≡ EndsEarly → ⊥) → sheet_in s ≡ offence why place → Stopped 0 sheet_in s why place
 refused-alike s why place n e = (sheet-stops s).other why place n e
 
 -- 2 and 7: two sheets that are equal up to and including the byte refused are refused alike
-pub refused-at-byte : (s t : List ℕ) (why : Refusal) (place : ℕ) → (why ≡ WrongByte) ⊎ (why ≡ BytesAfter) → sheetIn s ≡ offence why place
-    → Same (place + 1) s t → sheetIn t ≡ offence why place
+pub refused-at-byte : (s t : List ℕ) (why : Refusal) (place : ℕ) → (why ≡ WrongByte) ⊎ (why ≡ BytesAfter) → sheet_in s ≡ offence why place
+    → Same (place + 1) s t → sheet_in t ≡ offence why place
 refused-at-byte s t why place h e w =
     let other : why ≡ EndsEarly → ⊥ =
     λ x. ⊎_elim (λ y. omega (arith, ap number_of (sym x ∙ y))) (λ y. omega (arith, ap number_of (sym x ∙ y))) h in
@@ -179,8 +179,8 @@ refused-at-byte s t why place h e w =
     q.alike t (rw (q.here h) w)
 
 -- 2 to 7: bytes that are added to a refused sheet change nothing
-pub refused-longer : (s more : List ℕ) (why : Refusal) (place : ℕ) → (why ≡ EndsEarly → ⊥) → sheetIn s ≡ offence why place
-    → sheetIn (s ++ more) ≡ offence why place
+pub refused-longer : (s more : List ℕ) (why : Refusal) (place : ℕ) → (why ≡ EndsEarly → ⊥) → sheet_in s ≡ offence why place
+    → sheet_in (s ++ more) ≡ offence why place
 refused-longer s more why place n e =
     let q = refused-alike s why place n e in
     let l = length-append s more in

@@ -2,5 +2,5 @@
 use Rattle.std.specs.Prelude.{ℕ}
 
 -- the longest good sheet has 10,956 bytes
-abbrev pub sheetMost : ℕ
-sheetMost = 10956
+abbrev pub sheet_most : ℕ
+sheet_most = 10956

@@ -12,7 +12,7 @@ use Rattle.lists.proofs.Tests.{all-at}
 use Rattle.limits.specs.declared.Refusal.TheVariants.{EndsEarly, WrongByte}
 use Rattle.sheet_lines.specs.Found.{found, offence}
 use Rattle.sheet_lines.specs.Bytes.{byte_at}
-use Rattle.sheet_lines.specs.Classes.{canBe, class_of, code_of}
+use Rattle.sheet_lines.specs.Classes.{can_be, class_of, code_of}
 use Rattle.sheet_lines.specs.declared.bytes.Class.{Class}
 use Rattle.sheet_lines.specs.declared.Want.{Want}
 use Rattle.sheet_lines.specs.declared.Want.TheVariants.{Digit, Space, Feed, Kind, Heard}
@@ -59,12 +59,12 @@ module _ (can : ℕ → Bool) (s : List ℕ) (at : ℕ) where
 -- ---- classes
 
 -- what a class that is wanted is
-abbrev pub classCan : Want → Class → Bool
-classCan Digit c = eqb (code_of c) 0 || eqb (code_of c) 1
-classCan Space c = eqb (code_of c) 2
-classCan Feed c = eqb (code_of c) 3
-classCan Kind c = eqb (code_of c) 4
-classCan Heard c = eqb (code_of c) 0 || eqb (code_of c) 5
+abbrev pub class_can : Want → Class → Bool
+class_can Digit c = eqb (code_of c) 0 || eqb (code_of c) 1
+class_can Space c = eqb (code_of c) 2
+class_can Feed c = eqb (code_of c) 3
+class_can Kind c = eqb (code_of c) 4
+class_can Heard c = eqb (code_of c) 0 || eqb (code_of c) 5
 
 same : Bool → Bool → Bool
 same a b = cond a b (not b)
@@ -77,7 +77,7 @@ same-is false true e = absurd (false≢true e)
 same-is false false e = refl
 
 -- tried at every byte
-tried : (w : Want) → all_below 256 (λ b. same (canBe w b) (classCan w (class_of b))) ≡ true
+tried : (w : Want) → all_below 256 (λ b. same (can_be w b) (class_can w (class_of b))) ≡ true
 unfolding same class_of
 tried Digit = refl
 tried Space = refl
@@ -86,5 +86,5 @@ tried Kind = refl
 tried Heard = refl
 
 -- a byte can stand where its class is the one that is wanted
-pub suits : (w : Want) (b : ℕ) → b < 256 → canBe w b ≡ classCan w (class_of b)
-suits w b l = same-is _ _ (all-at (λ b. same (canBe w b) (classCan w (class_of b))) 256 b (tried w) l)
+pub suits : (w : Want) (b : ℕ) → b < 256 → can_be w b ≡ class_can w (class_of b)
+suits w b l = same-is _ _ (all-at (λ b. same (can_be w b) (class_can w (class_of b))) 256 b (tried w) l)

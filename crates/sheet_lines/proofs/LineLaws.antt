@@ -28,8 +28,8 @@ pub cond-found : {A : Type 0} (t : Bool) (part : Found A) (why : Refusal) (place
 cond-found true part why place a next e = (refl, e)
 cond-found false part why place a next e = not-both _ e
 
-pub found-value : {A : Type 0} {a b : A} {n m : ℕ} → found a n ≡ found b m → a ≡ b
-found-value e = cc
+pub found_value : {A : Type 0} {a b : A} {n m : ℕ} → found a n ≡ found b m → a ≡ b
+found_value e = cc
 
 pub found-next : {A : Type 0} {a b : A} {n m : ℕ} → found a n ≡ found b m → n ≡ m
 found-next e = cc
@@ -43,7 +43,7 @@ unfolding ended
 ended-found s last v next e =
     let p = then_found last (λ value at. and_then (end_at s at) (λ took next. found value next)) v next e in
     let q = then_found (end_at s p.1) (λ took next. found p.0 next) v next p.3 in
-    (p.1, q.0, p.2 ∙ ap (λ (x : ℕ). found x p.1) (found-value q.3), q.2 ∙ ap (λ (x : ℕ). found q.0 x) (found-next q.3))
+    (p.1, q.0, p.2 ∙ ap (λ (x : ℕ). found x p.1) (found_value q.3), q.2 ∙ ap (λ (x : ℕ). found q.0 x) (found-next q.3))
 
 -- a number on its line is within its limits
 pub line-within : (least most : ℕ) (s : List ℕ) (at v next : ℕ) → line_at least most s at ≡ found v next
@@ -53,7 +53,7 @@ line-within least most s at v next e =
     let p = then_found (ended s (number_at s at)) (λ value next. cond (within least most value) (found value next) (offence OutsideLimits at)) v next e in
     let q = cond-found (within least most p.0) (found p.0 p.1) OutsideLimits at v next p.3 in
     let w = and-true (leb least p.0) (leb p.0 most) q.0 in
-    let x : p.0 ≡ v = found-value q.1 in
+    let x : p.0 ≡ v = found_value q.1 in
     let l = leb-true least p.0 w.0 in
     let m = leb-true p.0 most w.1 in
     (omega arith, omega arith, p.2 ∙ q.1)

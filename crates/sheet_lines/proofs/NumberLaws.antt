@@ -11,27 +11,27 @@ use borrow.Author.Tests.{leb-true}
 use Rattle.lists.proofs.Tests.{and-true}
 use Rattle.limits.specs.declared.Refusal.{Refusal}
 use Rattle.sheet_lines.specs.Found.{found, offence}
-use Rattle.sheet_lines.specs.Bytes.{isDigit, byte_at, digitsAt}
+use Rattle.sheet_lines.specs.Bytes.{is_digit, byte_at, digits_at}
 
-pub digit-range : (b : ℕ) → isDigit b ≡ true → (48 ≤ b) × (b ≤ 57)
-digit-range b e = let p = and-true (leb 48 b) (leb b 57) e in (leb-true 48 b p.0, leb-true b 57 p.1)
+pub digit_range : (b : ℕ) → is_digit b ≡ true → (48 ≤ b) × (b ≤ 57)
+digit_range b e = let p = and-true (leb 48 b) (leb b 57) e in (leb-true 48 b p.0, leb-true b 57 p.1)
 
 -- ---- the digits after the first
 
 -- what is no digit ends the number
-pub digits-stop : (k v : ℕ) (s : List ℕ) (at : ℕ) (why : Refusal) (place : ℕ) → byte_at isDigit s at ≡ offence why place → digitsAt k v s at ≡ found v at
-unfolding digitsAt
-digits-stop zero v s at why place h = refl
-digits-stop (suc k) v s at why place h = rw h
+pub digits_stop : (k v : ℕ) (s : List ℕ) (at : ℕ) (why : Refusal) (place : ℕ) → byte_at is_digit s at ≡ offence why place → digits_at k v s at ≡ found v at
+unfolding digits_at
+digits_stop zero v s at why place h = refl
+digits_stop (suc k) v s at why place h = rw h
 
-pub digits-go : (k v : ℕ) (s : List ℕ) (at digit next : ℕ) → 0 < k → byte_at isDigit s at ≡ found digit next
-    → digitsAt k v s at ≡ digitsAt (k - 1) (v * 10 + (digit - 48)) s next
-unfolding digitsAt
+pub digits-go : (k v : ℕ) (s : List ℕ) (at digit next : ℕ) → 0 < k → byte_at is_digit s at ≡ found digit next
+    → digits_at k v s at ≡ digits_at (k - 1) (v * 10 + (digit - 48)) s next
+unfolding digits_at
 digits-go zero v s at digit next p h = absurd (omega arith)
 digits-go (suc k) v s at digit next p h = rw (h, sub-one)
 
-pub digits-end : (k v : ℕ) (s : List ℕ) (at : ℕ) → k ≤ 0 → digitsAt k v s at ≡ found v at
-unfolding digitsAt
+pub digits-end : (k v : ℕ) (s : List ℕ) (at : ℕ) → k ≤ 0 → digits_at k v s at ≡ found v at
+unfolding digits_at
 digits-end k v s at h = let e : k ≡ 0 = omega arith in rw e
 
 -- ---- a value of five digits at most

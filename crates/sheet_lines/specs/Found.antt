@@ -7,10 +7,10 @@ pub data Found (A : Type 0) : Type 0 where
   found : (value : A) (next : ℕ) → Found A
   offence : (why : Refusal) (place : ℕ) → Found A
 
-abbrev pub onFound : {A B : Type 0} → Found A → (A → ℕ → B) → (Refusal → ℕ → B) → B
-onFound (found value next) here refused = here value next
-onFound (offence why place) here refused = refused why place
+abbrev pub on_found : {A B : Type 0} → Found A → (A → ℕ → B) → (Refusal → ℕ → B) → B
+on_found (found value next) here refused = here value next
+on_found (offence why place) here refused = refused why place
 
 -- read on from the place after what was found; the first offence decides
 abbrev pub and_then : {A B : Type 0} → Found A → (A → ℕ → Found B) → Found B
-and_then part more = onFound part more offence
+and_then part more = on_found part more offence

@@ -3,11 +3,11 @@
 use Rattle.std.specs.Prelude.{ℕ, Bool, cond, ◌&&◌, List, leb}
 use Rattle.limits.specs.declared.Refusal.TheVariants.{OutsideLimits}
 use Rattle.sheet_lines.specs.Found.{Found, found, offence, and_then}
-use Rattle.sheet_lines.specs.Bytes.{isSpace, isLineFeed, byte_at, number_at}
+use Rattle.sheet_lines.specs.Bytes.{is_space, is_line_feed, byte_at, number_at}
 
 -- the end of a line, one line feed: how many bytes it took
 unfoldable pub end_at : List ℕ → ℕ → Found ℕ
-end_at sheet at = and_then (byte_at isLineFeed sheet at) (λ feed next. found 1 next)
+end_at sheet at = and_then (byte_at is_line_feed sheet at) (λ feed next. found 1 next)
 
 -- what was found, where its line ends after it
 unfoldable pub ended : List ℕ → Found ℕ → Found ℕ
@@ -22,8 +22,8 @@ line_at least most sheet at =
     and_then (ended sheet (number_at sheet at)) (λ value next. cond (within least most value) (found value next) (offence OutsideLimits at))
 
 -- a number and one space
-unfoldable pub spacedAt : List ℕ → ℕ → Found ℕ
-spacedAt sheet at = and_then (number_at sheet at) (λ value at. and_then (byte_at isSpace sheet at) (λ space next. found value next))
+unfoldable pub spaced_at : List ℕ → ℕ → Found ℕ
+spaced_at sheet at = and_then (number_at sheet at) (λ value at. and_then (byte_at is_space sheet at) (λ space next. found value next))
 
 -- a byte alone on its line, to the line's end
 abbrev pub lone_at : (ℕ → Bool) → List ℕ → ℕ → Found ℕ

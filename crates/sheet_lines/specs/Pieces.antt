@@ -4,6 +4,6 @@ use Rattle.sheet_lines.specs.Found.{Found, found, offence}
 use Rattle.sheet_lines.specs.declared.Piece.{Piece}
 use Rattle.sheet_lines.specs.declared.Piece.TheVariants as piece
 
-abbrev pub foundOf : Piece → Found ℕ
-foundOf (piece.Found value next) = found value next
-foundOf (piece.Offence why place) = offence why place
+abbrev pub found_of : Piece → Found ℕ
+found_of (piece.Found value next) = found value next
+found_of (piece.Offence why place) = offence why place

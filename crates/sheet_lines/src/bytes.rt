@@ -2,8 +2,8 @@
 // else.
 ghost use Rattle.std.specs.Prelude.{◌≡◌, eqb};
 ghost use Rattle.sheet_lines.specs.Bytes.{byte_at};
-ghost use Rattle.sheet_lines.specs.Classes.{canBe, class_of, code_of};
-ghost use Rattle.sheet_lines.specs.Pieces.{foundOf};
+ghost use Rattle.sheet_lines.specs.Classes.{can_be, class_of, code_of};
+ghost use Rattle.sheet_lines.specs.Pieces.{found_of};
 
 use crate::{Piece, Want};
 use limits::Refusal;
@@ -61,7 +61,7 @@ impl Class {
 
 // Can the byte stand where this is wanted?
 fn fits(b: u8, want: Want) -> bool
-    ensures { result ≡ canBe want b }
+    ensures { result ≡ can_be want b }
 {
     let c = classify(b);
     match want {
@@ -83,7 +83,7 @@ fn fits(b: u8, want: Want) -> bool
 
 // The byte at a place, where it is one that is wanted.
 pub fn byte(s: &[u8], at: usize, want: Want) -> Piece
-    ensures { foundOf result ≡ byte_at (canBe want) s.now at }
+    ensures { found_of result ≡ byte_at (can_be want) s.now at }
 {
     if at < s.len() {
         let b = s[at];

@@ -1,10 +1,10 @@
 // What stands on the lines of a sheet, read from any bytes whatever: a number alone, a number and a space, a
 // byte alone.
 ghost use Rattle.std.specs.Prelude.{◌≡◌};
-ghost use Rattle.sheet_lines.specs.Bytes.{isKind, isHeard};
-ghost use Rattle.sheet_lines.specs.Lines.{end_at, ended, line_at, spacedAt, lone_at};
-ghost use Rattle.sheet_lines.specs.Pieces.{foundOf};
-ghost use Rattle.sheet_lines.specs.Classes.{canBe};
+ghost use Rattle.sheet_lines.specs.Bytes.{is_kind, is_heard};
+ghost use Rattle.sheet_lines.specs.Lines.{end_at, ended, line_at, spaced_at, lone_at};
+ghost use Rattle.sheet_lines.specs.Pieces.{found_of};
+ghost use Rattle.sheet_lines.specs.Classes.{can_be};
 
 use limits::Refusal;
 
@@ -43,7 +43,7 @@ pub enum Piece {
 
 // The end of a line: how many bytes it took, and the place after it. No one else knows what ends a line.
 fn end(s: &[u8], at: usize) -> Piece
-    ensures { foundOf result ≡ end_at s.now at }
+    ensures { found_of result ≡ end_at s.now at }
 {
     let one = bytes::byte(s, at, Want::Feed);
     let Piece::Found(_, next) = one else {
@@ -54,7 +54,7 @@ fn end(s: &[u8], at: usize) -> Piece
 
 // What was found, where its line ends after it.
 fn to_end(s: &[u8], last: Piece) -> Piece
-    ensures { foundOf result ≡ ended s.now (foundOf last) }
+    ensures { found_of result ≡ ended s.now (found_of last) }
 {
     let Piece::Found(value, at) = last else {
         return last;
@@ -68,7 +68,7 @@ fn to_end(s: &[u8], last: Piece) -> Piece
 
 // A number alone on its line, from `least` to `most`.
 pub fn line(s: &[u8], at: usize, least: usize, most: usize) -> Piece
-    ensures { foundOf result ≡ line_at least most s.now at }
+    ensures { found_of result ≡ line_at least most s.now at }
 {
     let one = to_end(s, numbers::number(s, at));
     let Piece::Found(value, _) = one else {
@@ -85,7 +85,7 @@ pub fn line(s: &[u8], at: usize, least: usize, most: usize) -> Piece
 
 // A number and one space.
 pub fn spaced(s: &[u8], at: usize) -> Piece
-    ensures { foundOf result ≡ spacedAt s.now at }
+    ensures { found_of result ≡ spaced_at s.now at }
 {
     let one = numbers::number(s, at);
     let Piece::Found(value, end) = one else {
@@ -100,21 +100,21 @@ pub fn spaced(s: &[u8], at: usize) -> Piece
 
 // A byte alone on its line.
 fn lone(s: &[u8], at: usize, want: Want) -> Piece
-    ensures { foundOf result ≡ lone_at (canBe want) s.now at }
+    ensures { found_of result ≡ lone_at (can_be want) s.now at }
 {
     to_end(s, bytes::byte(s, at, want))
 }
 
 // The kind of a mark, alone on what is left of its line.
 pub fn kind(s: &[u8], at: usize) -> Piece
-    ensures { foundOf result ≡ lone_at isKind s.now at }
+    ensures { found_of result ≡ lone_at is_kind s.now at }
 {
     lone(s, at, Want::Kind)
 }
 
 // What the bus recorder heard, alone on its line.
 pub fn heard(s: &[u8], at: usize) -> Piece
-    ensures { foundOf result ≡ lone_at isHeard s.now at }
+    ensures { found_of result ≡ lone_at is_heard s.now at }
 {
     lone(s, at, Want::Heard)
 }

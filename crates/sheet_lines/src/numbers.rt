@@ -1,7 +1,7 @@
 // The numbers of a sheet.
 ghost use Rattle.std.specs.Prelude.{◌≡◌, ◌<◌};
-ghost use Rattle.sheet_lines.specs.Bytes.{digitsAt, number_at};
-ghost use Rattle.sheet_lines.specs.Pieces.{foundOf};
+ghost use Rattle.sheet_lines.specs.Bytes.{digits_at, number_at};
+ghost use Rattle.sheet_lines.specs.Pieces.{found_of};
 
 use crate::{Piece, Want, bytes};
 
@@ -11,7 +11,7 @@ const ZERO: usize = b'0' as usize;
 // The digits from `start` on, at most four, after a first one.
 fn digits(s: &[u8], start: usize, first: usize) -> Piece
     requires { first < 10 }
-    ensures { foundOf result ≡ digitsAt 4 first s.now start }
+    ensures { found_of result ≡ digits_at 4 first s.now start }
 {
     let mut at = start;
     let mut value = first;
@@ -31,7 +31,7 @@ fn digits(s: &[u8], start: usize, first: usize) -> Piece
 // 1 to 5 digits without a leading zero. What follows them decides the rest: a sixth digit, as one after a
 // leading zero, cannot stand there.
 pub fn number(s: &[u8], at: usize) -> Piece
-    ensures { foundOf result ≡ number_at s.now at }
+    ensures { found_of result ≡ number_at s.now at }
 {
     let one = bytes::byte(s, at, Want::Digit);
     let Piece::Found(digit, next) = one else {

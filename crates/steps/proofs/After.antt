@@ -7,39 +7,39 @@ use Prim.Native.Nat.{ℕ, ◌+◌, ◌*◌, ◌≤◌, ◌<◌}
 use native.Mathlib.Nat.{le_refl}
 use native.Mathlib.Omega.{arith}
 use lib.ListN.{length}
-use Rattle.limits.specs.Limits.{slotsMost}
-use Rattle.ring.specs.Ring.{seatOf}
+use Rattle.limits.specs.Limits.{slots_most}
+use Rattle.ring.specs.Ring.{seat_of}
 use Rattle.turn.specs.Turn.{turn_of}
-use Rattle.ring.specs.Step.{slot_of, turnAt, countIn, ringAfter, trailAfter}
-use Rattle.trail.specs.Trail.{width, roomFor}
+use Rattle.ring.specs.Step.{slot_of, turn_at, count_in, ring_after, trail_after}
+use Rattle.trail.specs.Trail.{width, room_for}
 use Rattle.ring.proofs.Records.{length-written}
 use Rattle.ring.specs.declared.Ring.{Ring}
 use Rattle.turn.specs.declared.Slot.{Slot}
 use Rattle.ring.proofs.Checked.{Valid, Member}
-use Rattle.steps.proofs.Drawn.{drawn-seat, undrawn-seat}
-use Rattle.turn.proofs.TurnLaws.{set-le, fault-by}
+use Rattle.steps.proofs.Drawn.{drawn_seat, undrawn_seat}
+use Rattle.turn.proofs.TurnLaws.{set_le, fault-by}
 
 -- ---- the seats
 
 module _ (r : Ring) (c : Slot) where
   -- a seat below n is as its turn leaves it
-  pub seat-after : (p : ℕ) → p < r.n → seatOf (ringAfter r c) p ≡ (turn_of c p (seatOf r p)).seat
-  seat-after = drawn-seat r.n r (λ q. (turnAt r c q).seat)
+  pub seat-after : (p : ℕ) → p < r.n → seat_of (ring_after r c) p ≡ (turn_of c p (seat_of r p)).seat
+  seat-after = drawn_seat r.n r (λ q. (turn_at r c q).seat)
 
   -- a seat n or above is as it was
-  pub seat-beyond : (p : ℕ) → r.n ≤ p → seatOf (ringAfter r c) p ≡ seatOf r p
-  seat-beyond = undrawn-seat r.n r (λ q. (turnAt r c q).seat)
+  pub seat_beyond : (p : ℕ) → r.n ≤ p → seat_of (ring_after r c) p ≡ seat_of r p
+  seat_beyond = undrawn_seat r.n r (λ q. (turn_at r c q).seat)
 
 -- ---- the records
 
 -- the trail keeps its length where they fit
-pub length-after : (r : Ring) (c : Slot) (t : List ℕ) → width * (r.records + countIn r c) ≤ length t → length (trailAfter r c t) ≡ length t
+pub length-after : (r : Ring) (c : Slot) (t : List ℕ) → width * (r.records + count_in r c) ≤ length t → length (trail_after r c t) ≡ length t
 length-after r c t l = length-written r c t r.records l r.n (le_refl r.n)
 
 -- ---- a ring leads to a ring
 
-pub valid-after : (r : Ring) (send : Bool) (receive room : ℕ) → Valid r room → r.time < slotsMost
-    → r.records + countIn r (slot_of r send receive) ≤ room → Valid (ringAfter r (slot_of r send receive)) room
+pub valid-after : (r : Ring) (send : Bool) (receive room : ℕ) → Valid r room → r.time < slots_most
+    → r.records + count_in r (slot_of r send receive) ≤ room → Valid (ring_after r (slot_of r send receive)) room
 valid-after r send receive room v early fit =
     let c = slot_of r send receive in
     record {
@@ -49,11 +49,11 @@ valid-after r send receive room v early fit =
       fits = fit;
       member = λ p l.
           let m = v.member p l in
-          let s = set-le c p (seatOf r p) in
+          let s = set_le c p (seat_of r p) in
           let q = m.past in
-          let f = fault-by c p (seatOf r p) (omega arith) in
+          let f = fault-by c p (seat_of r p) (omega arith) in
           let i = m.inside in
-          let n : Member r.n (r.time + 1) (turnAt r c p).seat = record { inside = omega arith; past = f } in
+          let n : Member r.n (r.time + 1) (turn_at r c p).seat = record { inside = omega arith; past = f } in
           rw (seat-after r c p l) n;
-      absent = λ p l m. seat-beyond r c p l ∙ v.absent p l m;
+      absent = λ p l m. seat_beyond r c p l ∙ v.absent p l m;
     }

@@ -2,20 +2,20 @@
 use mathlib.Core.Path.{◌≡◌, refl}
 use mathlib.Core.Bool.{Bool, true, false, cond, not, ◌&&◌}
 use Rattle.turn.specs.Table.{table, arrived, bit_of}
-use Rattle.turn.specs.Turn.{sees, isMissed}
+use Rattle.turn.specs.Turn.{sees, is_missed}
 use Rattle.turn.specs.declared.Spoken.TheVariants.{Nothing, Bit}
 
 -- the bit arrives where the owner speaks and the seat has no receive mark
-pub view-table : (speaks marked bit ack doubt : Bool) → let view = sees (cond speaks (Bit bit) Nothing) marked in
+pub view_table : (speaks marked bit ack doubt : Bool) → let view = sees (cond speaks (Bit bit) Nothing) marked in
     table (arrived view) (bit_of view) ack doubt ≡ table (speaks && not marked) bit ack doubt
-view-table true true bit true doubt = refl
-view-table true true bit false doubt = refl
-view-table true false bit ack doubt = refl
-view-table false marked bit true doubt = refl
-view-table false marked bit false doubt = refl
+view_table true true bit true doubt = refl
+view_table true true bit false doubt = refl
+view_table true false bit ack doubt = refl
+view_table false marked bit true doubt = refl
+view_table false marked bit false doubt = refl
 
 -- and a receive mark takes hold where the owner speaks
-pub view-missed : (speaks marked bit : Bool) → isMissed (sees (cond speaks (Bit bit) Nothing) marked) ≡ (speaks && marked)
-view-missed true true bit = refl
-view-missed true false bit = refl
-view-missed false marked bit = refl
+pub view_missed : (speaks marked bit : Bool) → is_missed (sees (cond speaks (Bit bit) Nothing) marked) ≡ (speaks && marked)
+view_missed true true bit = refl
+view_missed true false bit = refl
+view_missed false marked bit = refl

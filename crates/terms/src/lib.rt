@@ -1,9 +1,9 @@
 // The fault terms, and the first step up to which they fail. First faults are kept as their times plus one,
 // and 0 is none.
 ghost use Rattle.std.specs.Prelude.{◌≡◌, cond, not, ◌<◌, ◌≤◌};
-ghost use Rattle.limits.specs.Limits.{seatsMost, seatsStand};
-ghost use Rattle.terms.specs.Search.{by_step, tooClose, keepsApart, holdsWith, failingAt, earlier, firstFound};
-ghost use Rattle.terms.specs.Terms.{firstFailing};
+ghost use Rattle.limits.specs.Limits.{seats_most, seats_stand};
+ghost use Rattle.terms.specs.Search.{by_step, too_close, keeps_apart, holds_with, failing_at, earlier, first_found};
+ghost use Rattle.terms.specs.Terms.{first_failing};
 
 // The first fault g is by the step of the fault f.
 fn by_step(f: u16, g: u16) -> bool
@@ -14,7 +14,7 @@ fn by_step(f: u16, g: u16) -> bool
 
 // And less than n + 1 slots before it.
 fn too_close(n: usize, f: u16, g: u16) -> bool
-    ensures { result ≡ tooClose n f g }
+    ensures { result ≡ too_close n f g }
 {
     if by_step(f, g) {
         return ((f - g) as usize) <= n;
@@ -24,7 +24,7 @@ fn too_close(n: usize, f: u16, g: u16) -> bool
 
 // Seat q with the first fault g is seat p with the first fault f, or is not too close to it.
 fn keeps_apart(n: usize, p: usize, f: u16, q: usize, g: u16) -> bool
-    ensures { result ≡ keepsApart n p f q g }
+    ensures { result ≡ keeps_apart n p f q g }
 {
     if q == p {
         return true;
@@ -41,8 +41,8 @@ fn sound_after(f: u16, g: u16) -> usize
 
 // Whether the terms hold up to the step of p's first fault, as far as that fault is concerned.
 fn holds_with(faults: [u16; limits::SEATS_MOST], n: usize, p: usize) -> bool
-    requires { (n ≤ seatsMost) × (p < n) }
-    ensures { result ≡ holdsWith n faults p }
+    requires { (n ≤ seats_most) × (p < n) }
+    ensures { result ≡ holds_with n faults p }
 {
     let f = faults[p];
     let mut sound: usize = 0;
@@ -60,8 +60,8 @@ fn holds_with(faults: [u16; limits::SEATS_MOST], n: usize, p: usize) -> bool
 
 // p's first fault where the terms fail with it, and 0 else.
 fn failing_at(faults: [u16; limits::SEATS_MOST], n: usize, p: usize) -> u16
-    requires { (n ≤ seatsMost) × (p < n) }
-    ensures { result ≡ failingAt n faults p }
+    requires { (n ≤ seats_most) × (p < n) }
+    ensures { result ≡ failing_at n faults p }
 {
     let f = faults[p];
     if f == 0 {
@@ -88,8 +88,8 @@ fn earlier_of(f: u16, g: u16) -> u16
 
 // The earliest first fault with which the terms fail, and 0 where they hold.
 fn first_found(faults: [u16; limits::SEATS_MOST], n: usize) -> u16
-    requires { n ≤ seatsMost }
-    ensures { result ≡ firstFound n faults }
+    requires { n ≤ seats_most }
+    ensures { result ≡ first_found n faults }
 {
     let mut first: u16 = 0;
     let mut p: usize = 0;
@@ -103,7 +103,7 @@ fn first_found(faults: [u16; limits::SEATS_MOST], n: usize) -> u16
 // The first step before the time up to which the terms fail, and the time where they hold up to each. Where n
 // is no number of seats it is the time.
 pub fn first_failing(faults: [u16; limits::SEATS_MOST], n: usize, time: u16) -> u16
-    ensures { result ≡ cond (seatsStand n) (firstFailing n faults time) time }
+    ensures { result ≡ cond (seats_stand n) (first_failing n faults time) time }
 {
     if n < limits::SEATS_LEAST {
         return time;

@@ -10,20 +10,20 @@ use lib.ListN.{length, length-append}
 use borrow.Author.Tests.{lt-ltb, le-ltb, ltb-true, ltb-false}
 use Rattle.lists.proofs.Tests.{both}
 use Rattle.text.specs.Ascii.{digit}
-use Rattle.text.specs.Decimal.{digitsIn, decimal}
+use Rattle.text.specs.Decimal.{digits_in, decimal}
 
 -- ---- a number below 10, and any other
 
-digits-one : (k n : ℕ) → n < 10 → digitsIn (suc k) n ≡ digit n ∷ []
-unfolding digitsIn
+digits-one : (k n : ℕ) → n < 10 → digits_in (suc k) n ≡ digit n ∷ []
+unfolding digits_in
 digits-one k n h = rw (lt-ltb n 10 h)
 
-digits_more : (k n : ℕ) → 10 ≤ n → digitsIn (suc k) n ≡ digitsIn k (n / 10) ++ (digit (n % 10) ∷ [])
-unfolding digitsIn
+digits_more : (k n : ℕ) → 10 ≤ n → digits_in (suc k) n ≡ digits_in k (n / 10) ++ (digit (n % 10) ∷ [])
+unfolding digits_in
 digits_more k n h = rw (le-ltb n 10 h)
 
 -- a larger bound on the digits makes no difference
-digits_same : (k m n : ℕ) → n < k → n < m → digitsIn k n ≡ digitsIn m n
+digits_same : (k m n : ℕ) → n < k → n < m → digits_in k n ≡ digits_in m n
 digits_same zero m n h g = absurd (omega arith)
 digits_same (suc k) zero n h g = absurd (omega arith)
 digits_same (suc k) (suc m) n h g =
@@ -60,9 +60,9 @@ decimal-short (suc k) n h =
     (both (ltb n 10))
 
 -- a machine's number has at most 20 digits
-pub machine-short : (n : ℕ) → n < 2 ^ 64 → length (decimal n) ≤ 20
-machine-short n h = decimal-short 19 n (omega arith)
+pub machine_short : (n : ℕ) → n < 2 ^ 64 → length (decimal n) ≤ 20
+machine_short n h = decimal-short 19 n (omega arith)
 
 -- and one below 2 ^ 16 at most 5
-pub half-short : (n : ℕ) → n < 2 ^ 16 → length (decimal n) ≤ 5
-half-short n h = decimal-short 4 n (omega arith)
+pub half_short : (n : ℕ) → n < 2 ^ 16 → length (decimal n) ≤ 5
+half_short n h = decimal-short 4 n (omega arith)

@@ -2,13 +2,13 @@
 use mathlib.Core.Path.{◌≡◌, refl}
 use mathlib.Core.List.{List, [], ◌∷◌, ◌++◌}
 use Prim.Native.Nat.{ℕ}
-use Rattle.text.specs.Lent.{Lent, withByte, withText}
+use Rattle.text.specs.Lent.{Lent, with_byte, with_text}
 
-pub text-after : (x : Lent) (a b : List ℕ) → withText x (a ++ b) ≡ withText (withText x a) b
-unfolding withText
-text-after x [] b = refl
-text-after x (byte ∷ a) b = text-after (withByte x byte) a b
+pub text_after : (x : Lent) (a b : List ℕ) → with_text x (a ++ b) ≡ with_text (with_text x a) b
+unfolding with_text
+text_after x [] b = refl
+text_after x (byte ∷ a) b = text_after (with_byte x byte) a b
 
-pub byte-alone : (x : Lent) (byte : ℕ) → withText x (byte ∷ []) ≡ withByte x byte
-unfolding withText
+pub byte-alone : (x : Lent) (byte : ℕ) → with_text x (byte ∷ []) ≡ with_byte x byte
+unfolding with_text
 byte-alone x byte = refl

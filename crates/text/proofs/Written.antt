@@ -12,8 +12,8 @@ use lib.Seq.{take-nil, take_all, take-append-le, sets-eq}
 use borrow.Author.Tests.{le-leb, lt-leb, ltb-true, ltb-false}
 use Rattle.lists.specs.Put.{put}
 use Rattle.lists.proofs.Tests.{both}
-use Rattle.lists.proofs.Put.{put-nil, put-put, length-put}
-use Rattle.text.specs.Lent.{Lent, lent, placeAt, withByte, withText}
+use Rattle.lists.proofs.Put.{put_nil, put-put, length-put}
+use Rattle.text.specs.Lent.{Lent, lent, place_at, with_byte, with_text}
 use Rattle.text.specs.declared.Place.{Place}
 
 -- the buffer that came as `start` holds as much of the text as it can
@@ -23,9 +23,9 @@ pub record Written (start text : List ℕ) (place : Place) (page : List ℕ) : T
   pub whole : place.whole ≡ leb (length text) (length start)
 
 -- nothing yet
-nothing : (start : List ℕ) → Written start [] (placeAt 0 true) start
+nothing : (start : List ℕ) → Written start [] (place_at 0 true) start
 nothing start = record {
-  bytes = sym (ap (put start 0) (take-nil (length start)) ∙ put-nil start 0);
+  bytes = sym (ap (put start 0) (take-nil (length start)) ∙ put_nil start 0);
   at = sym (ap length (take-nil (length start)));
   whole = sym (le-leb 0 (length start) (omega arith));
 }
@@ -37,7 +37,7 @@ same_length {start} {text} w =
 
 module _ (start text : List ℕ) (place : Place) (page : List ℕ) (w : Written start text place page) (byte : ℕ) where
   -- one byte more, where there is room
-  byte_fits : place.at < length page → Written start (text ++ (byte ∷ [])) (placeAt (place.at + 1) place.whole) (set page place.at byte)
+  byte_fits : place.at < length page → Written start (text ++ (byte ∷ [])) (place_at (place.at + 1) place.whole) (set page place.at byte)
   byte_fits h =
       let l : length text < length start = omega (arith, same_length w, w.at, length-take (length start) text) in
       let t : take (length start) text ≡ text = take_all (length start) text (omega arith) in
@@ -55,7 +55,7 @@ module _ (start text : List ℕ) (place : Place) (page : List ℕ) (w : Written 
       }
 
   -- and where there is none
-  byte_past : length page ≤ place.at → Written start (text ++ (byte ∷ [])) (placeAt place.at false) page
+  byte_past : length page ≤ place.at → Written start (text ++ (byte ∷ [])) (place_at place.at false) page
   byte_past h =
       let l : length start ≤ length text = omega (arith, same_length w, w.at, length-take (length start) text) in
       let u : take (length start) (text ++ (byte ∷ [])) ≡ take (length start) text = take-append-le (length start) text (byte ∷ []) l in
@@ -66,20 +66,20 @@ module _ (start text : List ℕ) (place : Place) (page : List ℕ) (w : Written 
       }
 
 -- so for a byte, and for a text byte by byte
-then-byte : (start text : List ℕ) (x : Lent) (byte : ℕ) → Written start text x.place x.page → Written start (text ++ (byte ∷ [])) (withByte x byte).place (withByte x byte).page
-unfolding withByte
+then-byte : (start text : List ℕ) (x : Lent) (byte : ℕ) → Written start text x.place x.page → Written start (text ++ (byte ∷ [])) (with_byte x byte).place (with_byte x byte).page
+unfolding with_byte
 then-byte start text x byte w =
     ⊎_elim
     (λ e. rw e (byte_fits start text x.place x.page w byte (ltb-true _ _ e)))
     (λ e. rw e (byte_past start text x.place x.page w byte (ltb-false _ _ e)))
     (both (ltb x.place.at (length x.page)))
 
-then-text : (start before : List ℕ) (x : Lent) (text : List ℕ) → Written start before x.place x.page
-    → Written start (before ++ text) (withText x text).place (withText x text).page
-unfolding withText
-then-text start before x [] w = rw append-nil w
-then-text start before x (byte ∷ more) w =
-    rw append_assoc at (then-text start (before ++ (byte ∷ [])) (withByte x byte) more (then-byte start before x byte w))
+then_text : (start before : List ℕ) (x : Lent) (text : List ℕ) → Written start before x.place x.page
+    → Written start (before ++ text) (with_text x text).place (with_text x text).page
+unfolding with_text
+then_text start before x [] w = rw append-nil w
+then_text start before x (byte ∷ more) w =
+    rw append_assoc at (then_text start (before ++ (byte ∷ [])) (with_byte x byte) more (then-byte start before x byte w))
 
-pub from_start : (start text : List ℕ) → Written start text (withText (lent (placeAt 0 true) start) text).place (withText (lent (placeAt 0 true) start) text).page
-from_start start text = then-text start [] (lent (placeAt 0 true) start) text (nothing start)
+pub from_start : (start text : List ℕ) → Written start text (with_text (lent (place_at 0 true) start) text).place (with_text (lent (place_at 0 true) start) text).page
+from_start start text = then_text start [] (lent (place_at 0 true) start) text (nothing start)

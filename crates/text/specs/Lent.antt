@@ -10,17 +10,17 @@ pub record Lent : Type 0 where
 abbrev pub lent : Place → List ℕ → Lent
 lent place page = record { place = place; page = page }
 
-abbrev pub placeAt : ℕ → Bool → Place
-placeAt at whole = record { at = at; whole = whole }
+abbrev pub place_at : ℕ → Bool → Place
+place_at at whole = record { at = at; whole = whole }
 
 -- a byte goes to the place where there is room, and the next one behind it; where there is none no byte is
 -- touched, and not all has found room
-unfoldable pub withByte : Lent → ℕ → Lent
-withByte x byte =
+unfoldable pub with_byte : Lent → ℕ → Lent
+with_byte x byte =
     let at = x.place.at in
-    cond (ltb at (length x.page)) (lent (placeAt (at + 1) x.place.whole) (set x.page at byte)) (lent (placeAt at false) x.page)
+    cond (ltb at (length x.page)) (lent (place_at (at + 1) x.place.whole) (set x.page at byte)) (lent (place_at at false) x.page)
 
 -- a text goes there byte by byte
-unfoldable pub withText : Lent → List ℕ → Lent
-withText x [] = x
-withText x (byte ∷ more) = withText (withByte x byte) more
+unfoldable pub with_text : Lent → List ℕ → Lent
+with_text x [] = x
+with_text x (byte ∷ more) = with_text (with_byte x byte) more

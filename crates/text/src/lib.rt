@@ -2,7 +2,7 @@
 // buffer, as far as they fit.
 ghost use Rattle.std.specs.Prelude.{◌≡◌};
 ghost use Rattle.text.specs.Decimal.{decimal};
-ghost use Rattle.text.specs.Lent.{lent, withByte, withText};
+ghost use Rattle.text.specs.Lent.{lent, with_byte, with_text};
 
 // What parts the words of a line, and what ends the line.
 pub const SPACE: u8 = b' ';
@@ -17,7 +17,7 @@ pub struct Place {
 }
 
 pub fn put_byte(page: &mut [u8], place: Place, byte: u8) -> Place
-    ensures { lent result page.new ≡ withByte (lent place page.old) byte }
+    ensures { lent result page.new ≡ with_byte (lent place page.old) byte }
 {
     let at = place.at;
     if at < page.len() {
@@ -31,7 +31,7 @@ pub fn put_byte(page: &mut [u8], place: Place, byte: u8) -> Place
 }
 
 pub fn put_word(page: &mut [u8], place: Place, word: &[u8]) -> Place
-    ensures { lent result page.new ≡ withText (lent place page.old) word.now }
+    ensures { lent result page.new ≡ with_text (lent place page.old) word.now }
 {
     let mut next = place;
     let mut i: usize = 0;
@@ -44,7 +44,7 @@ pub fn put_word(page: &mut [u8], place: Place, word: &[u8]) -> Place
 
 // A number's decimal digits: its tens first, and then its last digit.
 pub fn put_number(page: &mut [u8], place: Place, n: usize) -> Place
-    ensures { lent result page.new ≡ withText (lent place page.old) (decimal n) }
+    ensures { lent result page.new ≡ with_text (lent place page.old) (decimal n) }
 {
     if n < 10 {
         return put_byte(page, place, b'0' + (n as u8));

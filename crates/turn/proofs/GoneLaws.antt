@@ -7,45 +7,45 @@ use native.Mathlib.Nat.{le_refl}
 use native.Mathlib.Omega.{arith}
 use lib.Dec.{eqb}
 use lib.ListN.{length}
-use Rattle.seats.specs.Sets.{hasSeat, withoutSeat}
-use Rattle.seats.proofs.Sets.{without-le, without-has}
-use Rattle.turn.specs.Table.{Gone, goneBy, countOf, withoutAll}
+use Rattle.seats.specs.Sets.{has_seat, without_seat}
+use Rattle.seats.proofs.Sets.{without_le, without-has}
+use Rattle.turn.specs.Table.{Gone, gone_by, count_of, without_all}
 use Rattle.turn.specs.declared.Removal.{Removal}
 use Rattle.turn.specs.declared.Removal.TheVariants.{Nobody, Itself, Owner, Both}
 
-pub without-all-le : (set : ℕ) (gs : List Gone) → withoutAll set gs ≤ set
-without-all-le set [] = le_refl set
-without-all-le set (g ∷ more) = omega (arith, without-all-le (withoutSeat set g.seat) more, without-le set g.seat)
+pub without-all_le : (set : ℕ) (gs : List Gone) → without_all set gs ≤ set
+without-all_le set [] = le_refl set
+without-all_le set (g ∷ more) = omega (arith, without-all_le (without_seat set g.seat) more, without_le set g.seat)
 
 -- whether a removal takes the seat itself, and whether it takes the owner
-abbrev pub takesItself : Removal → Bool
-takesItself Nobody = false
-takesItself (Itself c) = true
-takesItself (Owner c) = false
-takesItself (Both c d) = true
+abbrev pub takes_itself : Removal → Bool
+takes_itself Nobody = false
+takes_itself (Itself c) = true
+takes_itself (Owner c) = false
+takes_itself (Both c d) = true
 
-abbrev pub takesOwner : Removal → Bool
-takesOwner Nobody = false
-takesOwner (Itself c) = false
-takesOwner (Owner c) = true
-takesOwner (Both c d) = true
+abbrev pub takes_owner : Removal → Bool
+takes_owner Nobody = false
+takes_owner (Itself c) = false
+takes_owner (Owner c) = true
+takes_owner (Both c d) = true
 
 pub gone-has : (set p b q : ℕ) (k : Removal)
-    → hasSeat (withoutAll set (goneBy p b k)) q ≡ (hasSeat set q && not (takesItself k && eqb q p) && not (takesOwner k && eqb q b))
-gone-has set p b q Nobody = rw (and-true (hasSeat set q), and-true (hasSeat set q))
+    → has_seat (without_all set (gone_by p b k)) q ≡ (has_seat set q && not (takes_itself k && eqb q p) && not (takes_owner k && eqb q b))
+gone-has set p b q Nobody = rw (and-true (has_seat set q), and-true (has_seat set q))
 gone-has set p b q (Itself c) = without-has set p q ∙ sym (and-true _)
-gone-has set p b q (Owner c) = without-has set b q ∙ sym (ap (λ (x : Bool). x && not (eqb q b)) (and-true (hasSeat set q)))
-gone-has set p b q (Both c d) = without-has (withoutSeat set p) b q ∙ ap (λ (x : Bool). x && not (eqb q b)) (without-has set p q)
+gone-has set p b q (Owner c) = without-has set b q ∙ sym (ap (λ (x : Bool). x && not (eqb q b)) (and-true (has_seat set q)))
+gone-has set p b q (Both c d) = without-has (without_seat set p) b q ∙ ap (λ (x : Bool). x && not (eqb q b)) (without-has set p q)
 
 -- ---- how many a removal takes
 
-pub count-is : (p b : ℕ) (k : Removal) → length (goneBy p b k) ≡ countOf k
+pub count-is : (p b : ℕ) (k : Removal) → length (gone_by p b k) ≡ count_of k
 count-is p b Nobody = refl
 count-is p b (Itself c) = refl
 count-is p b (Owner c) = refl
 count-is p b (Both c d) = refl
 
-pub count-few : (k : Removal) → countOf k ≤ 2
+pub count-few : (k : Removal) → count_of k ≤ 2
 count-few Nobody = omega arith
 count-few (Itself c) = omega arith
 count-few (Owner c) = omega arith

@@ -1,6 +1,6 @@
 -- The table of document 01: what a seat that expects the owner decides, and whom that takes from its set.
 use Rattle.std.specs.Prelude.{Bool, true, false, List, [], ◌∷◌, ℕ, length}
-use Rattle.seats.specs.Sets.{withoutSeat}
+use Rattle.seats.specs.Sets.{without_seat}
 use Rattle.turn.specs.declared.View.{View}
 use Rattle.turn.specs.declared.View.TheVariants.{Silent, Missed, Heard}
 use Rattle.turn.specs.declared.Cause.{Cause}
@@ -37,11 +37,11 @@ bit_of Missed = false
 bit_of (Heard bit) = bit
 
 -- what a seat decides from what it sees and its own acknowledgement and doubt
-abbrev pub decisionBy : View → Row → Decision
-decisionBy v r = record { view = v; removal = r.removed; ack = r.ack }
+abbrev pub decision_by : View → Row → Decision
+decision_by v r = record { view = v; removal = r.removed; ack = r.ack }
 
 abbrev pub decided : View → Bool → Bool → Decision
-decided v ack doubt = decisionBy v (table (arrived v) (bit_of v) ack doubt)
+decided v ack doubt = decision_by v (table (arrived v) (bit_of v) ack doubt)
 
 -- ---- whom a removal takes from the set
 
@@ -54,17 +54,17 @@ abbrev pub gone : ℕ → Cause → Gone
 gone q c = record { seat = q; cause = c }
 
 -- those whom p removes in the slot of b, in the order of their records
-abbrev pub goneBy : ℕ → ℕ → Removal → List Gone
-goneBy p b Nobody = []
-goneBy p b (Itself c) = gone p c ∷ []
-goneBy p b (Owner c) = gone b c ∷ []
-goneBy p b (Both c d) = gone p c ∷ gone b d ∷ []
+abbrev pub gone_by : ℕ → ℕ → Removal → List Gone
+gone_by p b Nobody = []
+gone_by p b (Itself c) = gone p c ∷ []
+gone_by p b (Owner c) = gone b c ∷ []
+gone_by p b (Both c d) = gone p c ∷ gone b d ∷ []
 
 -- how many they are
-abbrev pub countOf : Removal → ℕ
-countOf k = length (goneBy 0 0 k)
+abbrev pub count_of : Removal → ℕ
+count_of k = length (gone_by 0 0 k)
 
 -- a set without them
-abbrev pub withoutAll : ℕ → List Gone → ℕ
-withoutAll set [] = set
-withoutAll set (g ∷ more) = withoutAll (withoutSeat set g.seat) more
+abbrev pub without_all : ℕ → List Gone → ℕ
+without_all set [] = set
+without_all set (g ∷ more) = without_all (without_seat set g.seat) more

@@ -1,7 +1,7 @@
 // What one seat makes of a slot: who speaks, what the seat sees of it, what it decides, and the seat after it.
 ghost use Rattle.std.specs.Prelude.{◌≡◌};
-ghost use Rattle.turn.specs.Table.{countOf};
-ghost use Rattle.turn.specs.Turn.{spokenBy, isMissed, viewOf, faultAfter, ownerTurn, otherTurn, turn_of};
+ghost use Rattle.turn.specs.Table.{count_of};
+ghost use Rattle.turn.specs.Turn.{spoken_by, is_missed, view_of, fault_after, owner_turn, other_turn, turn_of};
 
 pub mod calm; // calm.rt: the seats that are seen at once to keep all that they have
 mod table; // table.rt: the table, and whom a removal takes
@@ -78,7 +78,7 @@ pub struct Turn {
 // What an owner with this set and acknowledgement speaks: nothing where it is not in its own set or has a
 // send mark.
 pub fn speak(owner: usize, set: u32, ack: bool, send: bool) -> Spoken
-    ensures { result ≡ spokenBy owner set ack send }
+    ensures { result ≡ spoken_by owner set ack send }
 {
     if !seats::has(set, owner) {
         return Spoken::Nothing;
@@ -91,7 +91,7 @@ pub fn speak(owner: usize, set: u32, ack: bool, send: bool) -> Spoken
 
 // What a seat that expects the owner sees.
 fn view_of(slot: Slot, p: usize) -> View
-    ensures { result ≡ viewOf slot p }
+    ensures { result ≡ view_of slot p }
 {
     let spoken = slot.spoken;
     let Spoken::Bit(bit) = spoken else {
@@ -105,7 +105,7 @@ fn view_of(slot: Slot, p: usize) -> View
 
 // Whether the seat's receive mark took hold.
 fn is_missed(view: View) -> bool
-    ensures { result ≡ isMissed view }
+    ensures { result ≡ is_missed view }
 {
     match view {
         View::Silent => false,
@@ -116,7 +116,7 @@ fn is_missed(view: View) -> bool
 
 // The first fault: that of the first mark that took hold.
 fn fault_after(held: bool, since: u16, fault: u16) -> u16
-    ensures { result ≡ faultAfter held since fault }
+    ensures { result ≡ fault_after held since fault }
 {
     if held {
         if fault == 0 {
@@ -127,7 +127,7 @@ fn fault_after(held: bool, since: u16, fault: u16) -> u16
 }
 
 fn owner_turn(slot: Slot, s: Seat) -> Turn
-    ensures { result ≡ ownerTurn slot s }
+    ensures { result ≡ owner_turn slot s }
 {
     let fault = fault_after(slot.send, slot.since, s.fault);
     Turn {
@@ -142,7 +142,7 @@ fn owner_turn(slot: Slot, s: Seat) -> Turn
 }
 
 fn other_turn(slot: Slot, p: usize, s: Seat) -> Turn
-    ensures { result ≡ otherTurn slot p s }
+    ensures { result ≡ other_turn slot p s }
 {
     let decision = table::decide(view_of(slot, p), s.ack, s.doubt);
     let view = decision.view;
@@ -162,7 +162,7 @@ fn other_turn(slot: Slot, p: usize, s: Seat) -> Turn
 
 // How many seats a removal takes from a set.
 pub fn count_of(removal: Removal) -> usize
-    ensures { result ≡ countOf removal }
+    ensures { result ≡ count_of removal }
 {
     match removal {
         Removal::Nobody => 0,

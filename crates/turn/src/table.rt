@@ -1,6 +1,6 @@
 // The table of document 01: what a seat that expects the owner decides, and whom that takes from its set.
 ghost use Rattle.std.specs.Prelude.{◌≡◌};
-ghost use Rattle.turn.specs.Table.{row, table, arrived, bit_of, decided, goneBy, withoutAll};
+ghost use Rattle.turn.specs.Table.{row, table, arrived, bit_of, decided, gone_by, without_all};
 
 use crate::{Cause, Decision, Removal, View};
 
@@ -79,7 +79,7 @@ pub fn decide(view: View, ack: bool, doubt: bool) -> Decision
 
 // The set of p after its removal in the slot of b.
 pub fn after_removal(set: u32, p: usize, b: usize, removal: Removal) -> u32
-    ensures { result ≡ withoutAll set (goneBy p b removal) }
+    ensures { result ≡ without_all set (gone_by p b removal) }
 {
     match removal {
         Removal::Nobody => set,

@@ -1,6 +1,6 @@
 -- `run`: the reader's answer decides. Assumes nothing.
 use borrow.Author.Rules.{rules}
-use Rattle.sheet.proofs.Good.{reading-good}
+use Rattle.sheet.proofs.Good.{reading_good}
 use Rattle.run.proofs.Reading.{keeps-read, keeps-refused}
 use Rattle.run.proofs.run.Statement.{statement}
 use Rattle.run.proofs.run.Tie as tie
@@ -8,7 +8,7 @@ use Rattle.run.proofs.run.Tie as tie
 through-requires : tie.Need-through-requires
 through-requires c κs =
     let read = c.before.before.before.before.read in
-    reading-good _ read.result read.ensures c.before.enum_told.given.1
+    reading_good _ read.result read.ensures c.before.enum_told.given.1
 
 returns : tie.Need-returns
 returns c =

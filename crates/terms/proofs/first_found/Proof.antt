@@ -4,12 +4,12 @@ use mathlib.Core.Path.{◌≡◌, refl, sym, ap, ◌∙◌}
 use Prim.Native.Nat.{ℕ, ◌-◌, ◌≤◌}
 use native.Mathlib.Omega.{arith}
 use native.Mathlib.Numerals.{add-one}
-use Rattle.terms.specs.Search.{failingAt, earlier, earliest, firstFound}
+use Rattle.terms.specs.Search.{failing_at, earlier, earliest, first_found}
 use Rattle.terms.proofs.first_found.Statement.{statement}
 use Rattle.terms.proofs.first_found.Tie as tie
 
 abbrev invariant-loop : tie.invariant-loop
-invariant-loop faults n first₀ p₀ first p = (p ≤ n) × (first ≡ earliest p (failingAt n faults))
+invariant-loop faults n first₀ p₀ first p = (p ≤ n) × (first ≡ earliest p (failing_at n faults))
 
 abbrev decreases-loop : tie.decreases-loop
 decreases-loop faults n first₀ p₀ first p = n - p
@@ -24,16 +24,16 @@ loop-again c = let at = c.before.before.before in
       search rules,
       c.earlier-of.ensures
           ∙ ap (λ (x : ℕ). earlier x c.before.failing-at.result) at.loop.invariant.1
-          ∙ ap (earlier (earliest p (failingAt a.n a.faults))) c.before.failing-at.ensures
-          ∙ sym (ap (λ (k : ℕ). earliest k (failingAt a.n a.faults)) (add-one p)),
+          ∙ ap (earlier (earliest p (failing_at a.n a.faults))) c.before.failing-at.ensures
+          ∙ sym (ap (λ (k : ℕ). earliest k (failing_at a.n a.faults)) (add-one p)),
     )
 
 returns : tie.Need-returns invariant-loop decreases-loop
-unfolding firstFound
+unfolding first_found
 returns c = let at = c.before in
     let a = at.before.args in
     let e : at.loop.p ≡ a.n = omega arith in
-    at.loop.invariant.1 ∙ ap (λ (k : ℕ). earliest k (failingAt a.n a.faults)) e
+    at.loop.invariant.1 ∙ ap (λ (k : ℕ). earliest k (failing_at a.n a.faults)) e
 
 pub first-found-spec : {M : Type 1} → statement M
 first-found-spec =

@@ -1,7 +1,7 @@
 -- `put_number`: the tens before the last digit, the number falling with each call. Assumes nothing.
 use borrow.Author.Rules.{rules}
 use Rattle.text.proofs.Decimals.{decimal-one, decimal-more}
-use Rattle.text.proofs.Writing.{text-after, byte-alone}
+use Rattle.text.proofs.Writing.{text_after, byte-alone}
 use Prim.Native.Nat.{ℕ, ◌<◌}
 use borrow.Fn.Kinds.{In}
 use borrow.Fn.PlainCycle.{Measures, is, falls, and}
@@ -34,4 +34,4 @@ pub +put-number-spec : {M : Type 1} → statement M
     (λ c κs. search rules) (λ c. search rules) (λ c. search rules) (λ c κs. search rules) (λ c. search rules)
     (λ c. let tens = c.before.before.before.before.before.before in
     let n = tens.before.before.before.before.args.n in
-    rw (decimal-more n (search rules), text-after, byte-alone, ← tens.put-number.ensures) c.before.before.put-byte2.ensures)
+    rw (decimal-more n (search rules), text_after, byte-alone, ← tens.put-number.ensures) c.before.before.put-byte2.ensures)

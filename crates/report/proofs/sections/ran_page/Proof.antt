@@ -6,7 +6,7 @@ use borrow.Author.Tests.{not-true, not-false}
 use Rattle.run.specs.Outcome.{heard}
 use Rattle.report.specs.Page.{result_of}
 use Rattle.report.proofs.Writing.{then, same, looser}
-use Rattle.report.proofs.PageLaws.{page-unfit, page-printed, page-no-ring}
+use Rattle.report.proofs.PageLaws.{page-unfit, page-printed, page_no_ring}
 use Rattle.report.proofs.sections.ran_page.Statement.{statement}
 use Rattle.report.proofs.sections.ran_page.Tie as tie
 
@@ -25,7 +25,7 @@ returns-2 c = let t = c.before.before.before.before in
     let a = m.before.before.before.args in
     let cannot = sym t.before.printable.ensures ∙ not-true _ t.if1.true in
     looser (omega arith)
-    (same (page-no-ring (result_of a.ran a.trail.now) (heard a.bus) a.verdict m.match.keys2 cannot) c.before.before.refused-line2.ensures)
+    (same (page_no_ring (result_of a.ran a.trail.now) (heard a.bus) a.verdict m.match.keys2 cannot) c.before.before.refused-line2.ensures)
 
 returns-3 : tie.Need-returns-3
 returns-3 c = let u = c.before.before.before.before.before.before in

@@ -3,8 +3,8 @@ use borrow.Author.Rules.{rules}
 use Prim.Native.Nat.{◌≤◌}
 use native.Mathlib.Omega.{arith}
 use lib.ListN.{length}
-use Rattle.limits.specs.Limits.{seatsMost}
-use Rattle.trail.specs.Trail.{roomFor}
+use Rattle.limits.specs.Limits.{seats_most}
+use Rattle.trail.specs.Trail.{room_for}
 use Rattle.report.specs.Page.{result_of}
 use Rattle.report.proofs.Writing.{then, looser}
 use Rattle.report.proofs.PageLaws.{holds}
@@ -12,7 +12,7 @@ use Rattle.report.proofs.sections.up_to_faults.Statement.{statement}
 use Rattle.report.proofs.sections.up_to_faults.Tie as tie
 
 -- what is printed can be
-can : (c : tie.Start) → (c.args.ran.ring.n ≤ seatsMost) × (c.args.ran.ring.records ≤ roomFor (length c.args.trail.now))
+can : (c : tie.Start) → (c.args.ran.ring.n ≤ seats_most) × (c.args.ran.ring.records ≤ room_for (length c.args.trail.now))
 can c = holds (result_of c.args.ran c.args.trail.now) c.requires
 
 record-section-requires : tie.Need-record-section-requires

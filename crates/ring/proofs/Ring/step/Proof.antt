@@ -7,41 +7,41 @@ use native.Mathlib.Omega.{arith}
 use mathlib.Core.Bool.{true, false}
 use lib.ListN.{length}
 use borrow.Author.Tests.{not-true, not-false, eq-eqb, ne_eqb, le-leb, lt-leb}
-use Rattle.limits.specs.Limits.{seatsMost, slotsMost}
+use Rattle.limits.specs.Limits.{seats_most, slots_most}
 use Rattle.limits.specs.Refusals.{number_of, done, refused}
 use Rattle.limits.specs.declared.Refusal.TheVariants.{WrongMark, NoRoom, AtTheEnd, NotARing}
 use Rattle.turn.specs.declared.Slot.{Slot}
 use Rattle.turn.specs.declared.Spoken.{Spoken}
-use Rattle.trail.specs.Trail.{roomFor}
-use Rattle.ring.specs.Ring.{is_ring, withCounts}
-use Rattle.ring.specs.Step.{slot_of, countIn, trailAfter}
-use Rattle.ring.specs.Refusals.{marksStand, stepTold}
-use Rattle.ring.specs.Inside.{Drawable, drawnOf}
+use Rattle.trail.specs.Trail.{room_for}
+use Rattle.ring.specs.Ring.{is_ring, with_counts}
+use Rattle.ring.specs.Step.{slot_of, count_in, trail_after}
+use Rattle.ring.specs.Refusals.{marks_stand, step_told}
+use Rattle.ring.specs.Inside.{Drawable, drawn_of}
 use Rattle.ring.specs.declared.Ring.{Ring}
 use Rattle.ring.specs.declared.draw.Drawn.{Drawn}
 use Rattle.ring.specs.declared.StepAnswer.TheVariants.{Taken, Refused}
 use Rattle.ring.proofs.Checked.{Valid, ring-valid, owner-below}
 use Rattle.ring.proofs.Drawing.{counts-few}
 use Rattle.ring.proofs.Records.{write-none}
-use Rattle.ring.proofs.Refusing.{no-ring, wrong-mark, at-the-end, no_room, all-checked, refuse, take}
+use Rattle.ring.proofs.Refusing.{no_ring, wrong-mark, at_the_end, no_room, all_checked, refuse, take}
 use Rattle.ring.proofs.Ring.step.Statement.{statement}
 use Rattle.ring.proofs.Ring.step.Tie as tie
 
 -- ---- the ring that came
 
-told-ring : (c : tie.After-is-ring) → let a = c.before.before.before.args in c.is-ring.result ≡ is_ring a.self (roomFor (length a.trail.now))
+told-ring : (c : tie.After-is-ring) → let a = c.before.before.before.args in c.is-ring.result ≡ is_ring a.self (room_for (length a.trail.now))
 told-ring c = c.is-ring.ensures ∙ ap (is_ring c.before.before.before.args.self) c.before.room_for.ensures
 
-is-ring : (c : tie.Else1) → let a = c.before.before.before.before.args in is_ring a.self (roomFor (length a.trail.now)) ≡ true
+is-ring : (c : tie.Else1) → let a = c.before.before.before.before.args in is_ring a.self (room_for (length a.trail.now)) ≡ true
 is-ring c = sym (told-ring c.before) ∙ not-false _ c.if1.false
 
-valid : (c : tie.Else1) → let a = c.before.before.before.before.args in Valid a.self (roomFor (length a.trail.now))
+valid : (c : tie.Else1) → let a = c.before.before.before.before.args in Valid a.self (room_for (length a.trail.now))
 valid c = ring-valid _ _ (is-ring c)
 
-room-is : (c : tie.Else1) → c.before.before.room_for.result ≡ roomFor (length c.before.before.before.before.args.trail.now)
+room-is : (c : tie.Else1) → c.before.before.room_for.result ≡ room_for (length c.before.before.before.before.args.trail.now)
 room-is c = c.before.before.room_for.ensures
 
-owner-is : (c : tie.Else1) → let a = c.before.before.before.before.args in a.self.time % a.self.n < seatsMost
+owner-is : (c : tie.Else1) → let a = c.before.before.before.before.args in a.self.time % a.self.n < seats_most
 owner-is c = let v = valid c in omega (arith, owner-below _ _ v, v.most)
 
 -- ---- its slot
@@ -57,10 +57,10 @@ slot_is : (c : tie.After-speak) → let s = slotIn c in
     ◌≡◌ {A = Slot} (record { owner = s.owner; spoken = c.speak.result; send = s.send; receive = s.receive; since = s.since }) s
 slot_is c = let s = slotIn c in ap (λ (x : Spoken). record { owner = s.owner; spoken = x; send = s.send; receive = s.receive; since = s.since }) c.speak.ensures
 
-told-marks : (c : tie.After-marks-stand) → c.marks-stand.result ≡ marksStand (came c.before.before).n (slotIn c.before.before)
+told-marks : (c : tie.After-marks-stand) → c.marks-stand.result ≡ marks_stand (came c.before.before).n (slotIn c.before.before)
 told-marks c = c.marks-stand.ensures
 
-marks : (c : tie.Else2) → marksStand (came c.before.before.before).n (slotIn c.before.before.before) ≡ true
+marks : (c : tie.Else2) → marks_stand (came c.before.before.before).n (slotIn c.before.before.before) ≡ true
 marks c = sym (told-marks c.before) ∙ not-false _ c.if2.false
 
 -- ---- its turns
@@ -71,25 +71,25 @@ drawable c =
     let g = c.before.before.before.before.before.before.before.before in
     record { seats = (valid g).most; owner = owner-is g }
 
-drawn : (c : tie.After-draw) → let s = c.before.before.before.before.before in c.draw.result ≡ drawnOf (came s) (slotIn s) (came s).n
+drawn : (c : tie.After-draw) → let s = c.before.before.before.before.before in c.draw.result ≡ drawn_of (came s) (slotIn s) (came s).n
 drawn c =
     let s = c.before.before.before.before.before in
-    c.draw.ensures ∙ ap (λ (x : Slot). drawnOf (came s) x (came s).n) (slot_is s)
+    c.draw.ensures ∙ ap (λ (x : Slot). drawn_of (came s) x (came s).n) (slot_is s)
 
-drawn-count : (c : tie.After-draw) → let s = c.before.before.before.before.before in c.draw.result.count ≡ countIn (came s) (slotIn s)
+drawn-count : (c : tie.After-draw) → let s = c.before.before.before.before.before in c.draw.result.count ≡ count_in (came s) (slotIn s)
 drawn-count c = ap (λ (x : Drawn). x.count) (drawn c)
 
 -- with room for its records the step is taken
 stands : (c : tie.Else4) → let s = c.before.before.before.before.before.before.before.before in let a = s.before.before.before.before.before.before.before.before.args in
-    stepTold a.self a.send a.receive (length a.trail.now) ≡ done
+    step_told a.self a.send a.receive (length a.trail.now) ≡ done
 stands c =
     let d = c.before.before.before in
     let e = d.before.before in
     let s = e.before.before.before in
     let g = s.before.before.before.before in
     let a = g.before.before.before.before.args in
-    all-checked a.self a.send a.receive (length a.trail.now) (is-ring g) (marks e) (ne_eqb a.self.time slotsMost d.before.if3.false)
-    (le-leb (a.self.records + countIn a.self (slotIn s)) (roomFor (length a.trail.now)) (omega (arith, c.if4.false, drawn-count d, room-is g)))
+    all_checked a.self a.send a.receive (length a.trail.now) (is-ring g) (marks e) (ne_eqb a.self.time slots_most d.before.if3.false)
+    (le-leb (a.self.records + count_in a.self (slotIn s)) (room_for (length a.trail.now)) (omega (arith, c.if4.false, drawn-count d, room-is g)))
 
 -- ---- each answer
 
@@ -97,7 +97,7 @@ returns : tie.Need-returns
 returns c = let r = c.before.before in
     let a = r.before.before.before.args in
     rw c.refused.ensures
-    (refuse a.self a.send a.receive a.trail.now (Refused NotARing 0) (number_of NotARing) 0 refl (no-ring a.self a.send a.receive (length a.trail.now) (sym (told-ring r) ∙ not-true _ c.before.if1.true)))
+    (refuse a.self a.send a.receive a.trail.now (Refused NotARing 0) (number_of NotARing) 0 refl (no_ring a.self a.send a.receive (length a.trail.now) (sym (told-ring r) ∙ not-true _ c.before.if1.true)))
 
 rem-owner : tie.Need-nonzero-rem-owner
 rem-owner c = omega (arith, (valid c.before).least)
@@ -127,8 +127,8 @@ returns-3 c = let e = c.before.before in
     let g = e.before.before.before.before.before.before.before in
     let a = g.before.before.before.before.args in
     rw c.refused3.ensures
-    (refuse a.self a.send a.receive a.trail.now (Refused AtTheEnd a.self.time) (number_of AtTheEnd) slotsMost (ap (refused (number_of AtTheEnd)) c.before.if3.true)
-    (at-the-end a.self a.send a.receive (length a.trail.now) (is-ring g) (marks e) (eq-eqb a.self.time slotsMost c.before.if3.true)))
+    (refuse a.self a.send a.receive a.trail.now (Refused AtTheEnd a.self.time) (number_of AtTheEnd) slots_most (ap (refused (number_of AtTheEnd)) c.before.if3.true)
+    (at_the_end a.self a.send a.receive (length a.trail.now) (is-ring g) (marks e) (eq-eqb a.self.time slots_most c.before.if3.true)))
 
 draw-requires : tie.Need-draw-requires
 draw-requires c κs = drawable c
@@ -147,8 +147,8 @@ returns-4 c = let d = c.before.before.before.before in
     let a = g.before.before.before.before.args in
     rw c.refused4.ensures
     (refuse a.self a.send a.receive a.trail.now (Refused NoRoom a.self.time) (number_of NoRoom) a.self.time refl
-    (no_room a.self a.send a.receive (length a.trail.now) (is-ring g) (marks e) (ne_eqb a.self.time slotsMost d.before.if3.false)
-    (lt-leb (a.self.records + countIn a.self (slotIn s)) (roomFor (length a.trail.now)) (omega (arith, c.before.if4.true, drawn-count d, room-is g)))))
+    (no_room a.self a.send a.receive (length a.trail.now) (is-ring g) (marks e) (ne_eqb a.self.time slots_most d.before.if3.false)
+    (lt-leb (a.self.records + count_in a.self (slotIn s)) (room_for (length a.trail.now)) (omega (arith, c.before.if4.true, drawn-count d, room-is g)))))
 
 returns-5 : tie.Need-returns-5
 returns-5 c = let f = c.before.before.before.before in
@@ -157,7 +157,7 @@ returns-5 c = let f = c.before.before.before.before in
     let a = s.before.before.before.before.before.before.before.before.args in
     rw c.taken.ensures
     (take a.self a.send a.receive a.trail.now Taken refl (stands f)
-    (ap (λ (x : Drawn). withCounts x.ring x.ring.n (a.self.time + 1) (a.self.records + x.count)) (drawn d))
+    (ap (λ (x : Drawn). with_counts x.ring x.ring.n (a.self.time + 1) (a.self.records + x.count)) (drawn d))
     (sym (write-none a.self (slotIn s) a.trail.now a.self.records (sym (drawn-count d) ∙ c.before.if5.true))))
 
 write-requires : tie.Need-write-requires
@@ -174,8 +174,8 @@ returns-6 c = let w = c.before.before.before in
     let a = s.before.before.before.before.before.before.before.before.args in
     rw c.taken2.ensures
     (take a.self a.send a.receive a.trail.now Taken refl (stands f)
-    (ap (λ (x : Drawn). withCounts x.ring x.ring.n (a.self.time + 1) (a.self.records + x.count)) (drawn d))
-    (w.write.ensures ∙ ap (λ (x : Slot). trailAfter a.self x a.trail.now) (slot_is s)))
+    (ap (λ (x : Drawn). with_counts x.ring x.ring.n (a.self.time + 1) (a.self.records + x.count)) (drawn d))
+    (w.write.ensures ∙ ap (λ (x : Slot). trail_after a.self x a.trail.now) (slot_is s)))
 
 pub step_spec : {M : Type 1} → statement M
 step_spec =

@@ -1,7 +1,7 @@
 -- `fields`: time, seat and kind, one after the other. Assumes nothing.
 use borrow.Author.Rules.{rules}
 use native.Mathlib.Omega.{arith}
-use Rattle.sheet_lines.specs.Bytes.{isKind}
+use Rattle.sheet_lines.specs.Bytes.{is_kind}
 use Rattle.sheet_lines.proofs.LineLaws.{lone-found}
 use Rattle.sheet.specs.Marks.{fields_at}
 use Rattle.sheet.proofs.EntryLaws.{kind-small}
@@ -31,7 +31,7 @@ returns-3 c =
 cast-kind : tie.Need-overflow-cast-kind
 cast-kind c =
     let k = c.before.end.given.0.0 in
-    omega (arith, kind-small k (lone-found isKind _ _ k _ (found-by c.before.before.before.kind.ensures c.before.end.given.1)))
+    omega (arith, kind-small k (lone-found is_kind _ _ k _ (found-by c.before.before.before.kind.ensures c.before.end.given.1)))
 
 returns-4 : tie.Need-returns-4
 unfolding fields_at

@@ -5,10 +5,10 @@ use mathlib.Core.Path.{◌≡◌, sym, ap, ◌∙◌}
 use native.Mathlib.Omega.{arith}
 use lib.ListN.{length, get_or, length-set}
 use lib.Seq.{get_or-set_same}
-use Rattle.limits.specs.Limits.{marksMost, slotsMost}
-use Rattle.sheet.specs.Marks.{noMark, markLine}
-use Rattle.sheet.specs.Sheets.{noMarks}
-use Rattle.sheet.specs.Inside.{offenceOf}
+use Rattle.limits.specs.Limits.{marks_most, slots_most}
+use Rattle.sheet.specs.Marks.{no_mark, mark_line}
+use Rattle.sheet.specs.Sheets.{no_marks}
+use Rattle.sheet.specs.Inside.{offence_of}
 use Rattle.sheet.proofs.EntryLaws.{Reached, begins, goes_on, stops, ends}
 use Rattle.sheet.proofs.MarkLaws.{good-mark}
 use Rattle.sheet.proofs.marks.mark_lines.Statement.{statement}
@@ -16,24 +16,24 @@ use Rattle.sheet.proofs.marks.mark_lines.Tie as tie
 
 abbrev invariant-loop : tie.invariant-loop
 invariant-loop s start n count list₀ last₀ at₀ k₀ list last at k =
-    Reached (markLine n s) count start noMarks at k list × (last ≡ get_or list (k - 1) noMark) × (length list ≡ marksMost)
+    Reached (mark_line n s) count start no_marks at k list × (last ≡ get_or list (k - 1) no_mark) × (length list ≡ marks_most)
 
 abbrev decreases-loop : tie.decreases-loop
 decreases-loop s start n count list₀ last₀ at₀ k₀ list last at k = count - k
 
 loop-holds : tie.Need-loop-init invariant-loop decreases-loop
-unfolding noMarks
+unfolding no_marks
 loop-holds c = (rw c.before.no-marks.ensures (begins _ _ _ _), rw (c.no-mark.ensures, c.before.no-marks.ensures), rw c.before.no-marks.ensures)
 
 returns : tie.Need-returns invariant-loop decreases-loop
-unfolding markLine
+unfolding mark_line
 returns c =
     let g = c.enum_told.given in
     let f = c.before.before in
     rw (g.1, stops _ _ _ _ _ _ _ f.before.before.loop.invariant.0 f.before.loop-test.true g.0.0 g.0.1.0 (rw (← f.fields.ensures, g.1)))
 
 returns-2 : tie.Need-returns-2 invariant-loop decreases-loop
-unfolding markLine
+unfolding mark_line
 returns-2 c =
     let g = c.before.verdict.given in
     let checked = c.before.before.before in
@@ -44,9 +44,9 @@ returns-2 c =
     (rw (← f.fields.ensures, read.end.given.1, ← o.invariant.1, ← checked.first-offence.ensures, g.1)))
 
 -- a mark without an offence is within its limits
-within : (c : tie.After-enum-told2 invariant-loop decreases-loop) → (c.before.before.before.before.before.before.fields.result.time < slotsMost) × (c.before.before.before.before.before.before.fields.result.seat < c.before.before.before.before.before.before.before.before.before.before.before.before.args.n)
+within : (c : tie.After-enum-told2 invariant-loop decreases-loop) → (c.before.before.before.before.before.before.fields.result.time < slots_most) × (c.before.before.before.before.before.before.fields.result.seat < c.before.before.before.before.before.before.before.before.before.before.before.before.args.n)
 within c =
-    let g = good-mark _ _ _ _ (sym c.before.before.first-offence.ensures ∙ ap offenceOf c.enum-told2.given.1) in
+    let g = good-mark _ _ _ _ (sym c.before.before.first-offence.ensures ∙ ap offence_of c.enum-told2.given.1) in
     (g.time, g.seat)
 
 cast-t19 : tie.Need-overflow-cast-t19 invariant-loop decreases-loop
@@ -56,7 +56,7 @@ cast-t20 : tie.Need-overflow-cast-t20 invariant-loop decreases-loop
 cast-t20 c = omega (arith, within c.before.before)
 
 loop-again : tie.Need-loop-preserved invariant-loop decreases-loop
-unfolding markLine
+unfolding mark_line
 loop-again c =
     let good = c.before.before in
     let checked = good.before.before in
@@ -66,7 +66,7 @@ loop-again c =
       goes_on _ _ _ _ _ _ _ o.invariant.0 f.before.loop-test.true _ _
           (rw (← f.fields.ensures, read.end.given.1, ← o.invariant.1, ← checked.first-offence.ensures, good.enum-told2.given.1)),
       let e : o.k + 1 - 1 ≡ o.k = omega arith in
-          rw (e, get_or-set_same o.list o.k _ noMark (omega (arith, f.before.before.before.before.before.before.requires.0))),
+          rw (e, get_or-set_same o.list o.k _ no_mark (omega (arith, f.before.before.before.before.before.before.requires.0))),
       simp length-set o.invariant.2,
     )
 

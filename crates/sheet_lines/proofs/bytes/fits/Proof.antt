@@ -2,15 +2,15 @@
 use borrow.Author.Rules.{rules}
 use Prim.Native.Nat.{ℕ, ◌<◌}
 use mathlib.Core.Path.{◌≡◌, sym, ◌∙◌}
-use Rattle.sheet_lines.specs.Classes.{canBe, class_of}
+use Rattle.sheet_lines.specs.Classes.{can_be, class_of}
 use Rattle.sheet_lines.specs.declared.bytes.Class.{Class}
 use Rattle.sheet_lines.specs.declared.Want.{Want}
 use Rattle.sheet_lines.specs.declared.Want.TheVariants.{Digit, Space, Feed, Kind, Heard}
-use Rattle.sheet_lines.proofs.ByteLaws.{classCan, suits}
+use Rattle.sheet_lines.proofs.ByteLaws.{class_can, suits}
 use Rattle.sheet_lines.proofs.bytes.fits.Statement.{statement}
 use Rattle.sheet_lines.proofs.bytes.fits.Tie as tie
 
-can : (w want : Want) (b : ℕ) (k : Class) → b < 256 → want ≡ w → k ≡ class_of b → canBe want b ≡ classCan w k
+can : (w want : Want) (b : ℕ) (k : Class) → b < 256 → want ≡ w → k ≡ class_of b → can_be want b ≡ class_can w k
 can w want b k l e f = rw (e, f) (suits w b l)
 
 returns : tie.Need-returns

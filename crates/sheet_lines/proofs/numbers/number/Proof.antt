@@ -5,9 +5,9 @@ use mathlib.Core.Path.{sym, ap, ◌∙◌}
 use native.Mathlib.Omega.{arith}
 use borrow.Author.Tests.{eq-eqb, ne_eqb}
 use Rattle.sheet_lines.specs.Bytes.{number_at}
-use Rattle.sheet_lines.specs.Pieces.{foundOf}
+use Rattle.sheet_lines.specs.Pieces.{found_of}
 use Rattle.sheet_lines.proofs.ByteLaws.{byte-found}
-use Rattle.sheet_lines.proofs.NumberLaws.{digit-range}
+use Rattle.sheet_lines.proofs.NumberLaws.{digit_range}
 use Rattle.sheet_lines.proofs.numbers.number.Statement.{statement}
 use Rattle.sheet_lines.proofs.numbers.number.Tie as tie
 
@@ -20,7 +20,7 @@ unfolding number_at
 returns-2 c = rw (← c.before.before.before.before.byte.ensures, c.before.before.one.given.1, eq-eqb _ 48 c.if1.true)
 
 digit : (c : tie.After-known-told) → (48 ≤ c.before.one.given.0.0) × (c.before.one.given.0.0 ≤ 57)
-digit c = digit-range _ (byte-found _ _ _ _ _ (sym c.before.before.before.byte.ensures ∙ ap foundOf c.before.one.given.1)).passes
+digit c = digit_range _ (byte-found _ _ _ _ _ (sym c.before.before.before.byte.ensures ∙ ap found_of c.before.one.given.1)).passes
 
 sub-digits : tie.Need-overflow-sub-digits
 sub-digits c = omega (arith, digit c.before)

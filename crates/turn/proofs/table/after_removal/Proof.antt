@@ -1,7 +1,7 @@
 -- `after_removal`: one seat after the other. Assumes nothing.
 use borrow.Author.Rules.{rules}
 use mathlib.Core.Path.{ap, ◌∙◌}
-use Rattle.seats.specs.Sets.{withoutSeat}
+use Rattle.seats.specs.Sets.{without_seat}
 use Prim.Native.Nat.{ℕ}
 use Rattle.turn.proofs.table.after_removal.Statement.{statement}
 use Rattle.turn.proofs.table.after_removal.Tie as tie
@@ -17,7 +17,7 @@ returns-3 c = c.without2.ensures ∙ rw c.before.enum-told3.given.1
 
 returns-4 : tie.Need-returns-4
 returns-4 c = let a = c.before.before.before.before.args in
-    c.without4.ensures ∙ ap (λ (s : ℕ). withoutSeat s a.b) c.before.without3.ensures ∙ rw c.before.before.enum-told4.given.1
+    c.without4.ensures ∙ ap (λ (s : ℕ). without_seat s a.b) c.before.without3.ensures ∙ rw c.before.before.enum-told4.given.1
 
 pub after-removal-spec : {M : Type 1} → statement M
 after-removal-spec =
