@@ -1,4 +1,6 @@
 // What C and Rust call: the page of a sheet, under a plain name.
+#![tactic(auto)]
+
 ghost use Rattle.sheet_page.specs.Promise.{PagePromise};
 
 // Run a sheet and print it into the buffer: the page's length, or 0 where the buffer is too short for it.

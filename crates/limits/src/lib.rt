@@ -1,4 +1,6 @@
 // The limits of document 01, and the reasons for which it refuses, each once.
+#![tactic(auto)]
+
 ghost use Rattle.std.specs.Prelude.{◌≡◌};
 ghost use Rattle.limits.specs.Refusals.{number_of};
 
@@ -16,7 +18,7 @@ pub const MARKS_MOST: usize = 256;
 pub const MODULE_MOST: usize = 65535;
 
 // Why something is refused.
-#[derive(Drop)]
+#[derive(Clone, Copy)]
 pub enum Refusal {
     EndsEarly,
     WrongByte,

@@ -1,1 +1,2 @@
 // No code: definitions of lists that a count builds (specs/) and their laws (proofs/).
+#![tactic(auto)]

@@ -1,4 +1,6 @@
 // The printed page of what a run leaves, as document 01 says under 'What the program prints'.
+#![tactic(auto)]
+
 ghost use Rattle.std.specs.Prelude.{◌≡◌};
 ghost use Rattle.report.specs.Promise.{no_page, PrintPromise};
 

@@ -1,4 +1,6 @@
 // The membership engine: a ring of modules, stepped slot by slot, with its trail and its verdict.
+#![tactic(auto)]
+
 ghost use Rattle.std.specs.Prelude.{◌≡◌};
 ghost use Rattle.ring.specs.declared.StepAnswer.TheVariants.{Taken, Refused};
 ghost use Rattle.ring.specs.Promise.{ZeroPromise, FreshPromise, StepPromise, VerdictPromise};
@@ -11,7 +13,7 @@ mod draw; // draw.rt: the step's two passes over the seats
 mod start; // start.rt: the zero ring and a fresh one
 
 // The whole ring is one value. A first fault is kept as its time plus one, and 0 is none.
-#[derive(Drop)]
+#[derive(Clone, Copy)]
 pub struct Ring {
     pub sets: [u32; limits::SEATS_MOST],
     pub acks: [bool; limits::SEATS_MOST],
@@ -23,27 +25,27 @@ pub struct Ring {
 }
 
 // How a fresh ring or a step was answered; a refusal has its place.
-#[derive(Drop)]
+#[derive(Clone, Copy)]
 pub enum StepAnswer {
     Taken,
     Refused(Refusal, usize),
 }
 
-#[derive(Drop)]
+#[derive(Clone, Copy)]
 pub struct Stepped {
     pub answer: StepAnswer,
     pub ring: Ring,
 }
 
 // The fault terms hold up to the last step taken, or fail first up to the step named.
-#[derive(Drop)]
+#[derive(Clone, Copy)]
 pub enum Verdict {
     Within,
     Outside(u16),
     Refused(Refusal, usize),
 }
 
-#[derive(Drop)]
+#[derive(Clone, Copy)]
 pub struct Judged {
     pub verdict: Verdict,
     pub ring: Ring,

@@ -1,4 +1,6 @@
 // A sheet run: its marks slot by slot, the bus compared, the ring stepped, the trail written.
+#![tactic(auto)]
+
 ghost use Rattle.std.specs.Prelude.{◌≡◌};
 ghost use Rattle.limits.specs.Refusals.{number_of};
 ghost use Rattle.ring.specs.Refusals.{verdict_found};
@@ -16,21 +18,21 @@ use turn::Spoken;
 mod marks; // marks.rt: which marks a slot has
 
 // What the owners spoke, compared with what the bus recorder heard.
-#[derive(Drop)]
+#[derive(Clone, Copy)]
 pub enum Bus {
     Agrees,
     Differs(u16),
 }
 
 // The run to its end or to the first difference, or why it is refused and at which place.
-#[derive(Drop)]
+#[derive(Clone, Copy)]
 pub enum RunAnswer {
     Ran(Bus, Verdict),
     Refused(Refusal, usize),
 }
 
 // The answer, the ring after the last step taken, and the module number of each seat.
-#[derive(Drop)]
+#[derive(Clone, Copy)]
 pub struct Ran {
     pub answer: RunAnswer,
     pub ring: Ring,

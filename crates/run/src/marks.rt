@@ -9,7 +9,7 @@ use sheet::Mark;
 
 // What the marks gathered so far come to: how many they are, the seats with a mark in this slot, and those
 // that are dark.
-#[derive(Drop)]
+#[derive(Clone, Copy)]
 pub struct Gathered {
     pub next: usize,
     pub send: u32,
@@ -18,7 +18,7 @@ pub struct Gathered {
 }
 
 // What a step is given: the owner's send mark, and the seats with a receive mark.
-#[derive(Drop)]
+#[derive(Clone, Copy)]
 pub struct SlotMarks {
     pub send: bool,
     pub receive: u32,

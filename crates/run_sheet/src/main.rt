@@ -1,4 +1,6 @@
 // The run program: a sheet from standard input, its page to standard output, and nothing besides.
+#![tactic(auto)]
+
 use libc::{STDIN_FILENO, STDOUT_FILENO};
 
 // At most so many bytes are read, and what was read is handed on.

@@ -1,4 +1,6 @@
 // Sets of seats: seat j of 0 to 31 is in the set where binary digit j of the mask is 1.
+#![tactic(auto)]
+
 ghost use Rattle.std.specs.Prelude.{◌≡◌, leb};
 ghost use Rattle.seats.specs.Sets.{has_seat, without_seat, full_set, size_of};
 

@@ -1,5 +1,7 @@
 // Run sheets: from any bytes whatever to a sheet value and an answer, as document 01 says under 'Run sheets'
 // and 'Refusal numbers'.
+#![tactic(auto)]
+
 ghost use Rattle.std.specs.Prelude.{◌≡◌};
 ghost use Rattle.sheet.specs.Sheets.{sheet_in, ReadPromise};
 ghost use Rattle.sheet.specs.Inside.{stopped_at, whole_of};
@@ -13,7 +15,7 @@ mod marks; // marks.rt: those of the second
 mod slots; // slots.rt: those of the third
 
 // A mark of a seat at a time, of one of the kinds.
-#[derive(Drop)]
+#[derive(Clone, Copy)]
 pub struct Mark {
     pub time: u16,
     pub seat: u8,
@@ -22,7 +24,7 @@ pub struct Mark {
 
 // A sheet: the module number of each seat, the marks, and what was heard in each slot. Entries past each
 // count are zero.
-#[derive(Drop)]
+#[derive(Clone, Copy)]
 pub struct Sheet {
     pub n: usize,
     pub modules: [u16; limits::SEATS_MOST],
@@ -32,21 +34,21 @@ pub struct Sheet {
     pub slots: [u8; limits::SLOTS_MOST],
 }
 
-#[derive(Drop)]
+#[derive(Clone, Copy)]
 pub enum ReadAnswer {
     Read,
     // Why, and at which place.
     Refused(Refusal, usize),
 }
 
-#[derive(Drop)]
+#[derive(Clone, Copy)]
 pub struct Reading {
     pub answer: ReadAnswer,
     pub sheet: Sheet,
 }
 
 // What bytes are read as: a sheet and the place after it, or an offence and no sheet.
-#[derive(Drop)]
+#[derive(Clone, Copy)]
 struct Whole {
     sheet: Sheet,
     end: Piece,

@@ -11,7 +11,7 @@ use limits::Refusal;
 use sheet_lines::Piece;
 
 // A mark line's fields; and the place after them, or the offence.
-#[derive(Drop)]
+#[derive(Clone, Copy)]
 struct Line {
     time: usize,
     seat: usize,
@@ -20,13 +20,13 @@ struct Line {
 }
 
 // What a mark's values come to.
-#[derive(Drop)]
+#[derive(Clone, Copy)]
 enum Check {
     Good,
     Bad(Refusal),
 }
 
-#[derive(Drop)]
+#[derive(Clone, Copy)]
 pub struct Marks {
     pub list: [Mark; limits::MARKS_MOST],
     pub end: Piece,

@@ -10,7 +10,7 @@ use limits::Refusal;
 use sheet_lines::Piece;
 
 // Module numbers; and how many there are with the place after them, or the offence.
-#[derive(Drop)]
+#[derive(Clone, Copy)]
 pub struct Modules {
     pub list: [u16; limits::SEATS_MOST],
     pub end: Piece,

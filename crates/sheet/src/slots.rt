@@ -8,7 +8,7 @@ ghost use Rattle.sheet.specs.Inside.{beside};
 use crate::empty;
 use sheet_lines::Piece;
 
-#[derive(Drop)]
+#[derive(Clone, Copy)]
 pub struct Slots {
     pub list: [u8; limits::SLOTS_MOST],
     pub end: Piece,

@@ -9,7 +9,7 @@ use crate::{Piece, Want};
 use limits::Refusal;
 
 // What a byte of a sheet can be. 0 and 1 are digits, and are heard on the bus too.
-#[derive(Drop)]
+#[derive(Clone, Copy)]
 enum Class {
     Bit,
     Digit,

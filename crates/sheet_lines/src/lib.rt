@@ -1,5 +1,7 @@
 // What stands on the lines of a sheet, read from any bytes whatever: a number alone, a number and a space, a
 // byte alone.
+#![tactic(auto)]
+
 ghost use Rattle.std.specs.Prelude.{◌≡◌};
 ghost use Rattle.sheet_lines.specs.Bytes.{is_kind, is_heard};
 ghost use Rattle.sheet_lines.specs.Lines.{end_at, ended, line_at, spaced_at, lone_at};
@@ -25,7 +27,7 @@ pub const HEARD_ZERO: u8 = b'0';
 pub const HEARD_SILENCE: u8 = b'-';
 
 // What the sheet's grammar asks for at a place.
-#[derive(Drop)]
+#[derive(Clone, Copy)]
 enum Want {
     Digit,
     Space,
@@ -35,7 +37,7 @@ enum Want {
 }
 
 // What was found, and the place after it; or the offence and its place.
-#[derive(Drop)]
+#[derive(Clone, Copy)]
 pub enum Piece {
     Found(usize, usize),
     Offence(Refusal, usize),

@@ -1,4 +1,6 @@
 // The page of a sheet: an empty trail is lent, the sheet is run, and what the run leaves is printed.
+#![tactic(auto)]
+
 ghost use Rattle.sheet_page.specs.Promise.{PagePromise};
 
 // Run a sheet and print it into the buffer: the page's length, or 0 where the buffer is too short for it.

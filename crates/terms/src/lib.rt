@@ -1,5 +1,7 @@
 // The fault terms, and the first step up to which they fail. First faults are kept as their times plus one,
 // and 0 is none.
+#![tactic(auto)]
+
 ghost use Rattle.std.specs.Prelude.{◌≡◌, cond, not, ◌<◌, ◌≤◌};
 ghost use Rattle.limits.specs.Limits.{seats_most, seats_stand};
 ghost use Rattle.terms.specs.Search.{by_step, too_close, keeps_apart, holds_with, failing_at, earlier, first_found};

@@ -1,5 +1,7 @@
 // Text: the bytes that part and end its lines; and bytes, words and decimal numbers written into a lent
 // buffer, as far as they fit.
+#![tactic(auto)]
+
 ghost use Rattle.std.specs.Prelude.{◌≡◌};
 ghost use Rattle.text.specs.Decimal.{decimal};
 ghost use Rattle.text.specs.Lent.{lent, with_byte, with_text};
@@ -10,7 +12,7 @@ pub const SPACE: u8 = b' ';
 pub const LINE_FEED: u8 = b'\n';
 
 // Where the next byte goes, and whether all bytes up to there found room.
-#[derive(Drop)]
+#[derive(Clone, Copy)]
 pub struct Place {
     pub at: usize,
     pub whole: bool,

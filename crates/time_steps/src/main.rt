@@ -1,5 +1,7 @@
 // A benchmark: a ring of 32 stepped 409,600 times, a hundred runs of 4,096 slots. It is timed by hand and
 // never asserted.
+#![tactic(auto)]
+
 use libc::STDOUT_FILENO;
 use ring::Ring;
 

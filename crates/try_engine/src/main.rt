@@ -1,5 +1,7 @@
 // The engine's runs of document 01 that are run and compared: the room for records, and every kind of refusal
 // of a step, a fresh ring and a verdict.
+#![tactic(auto)]
+
 use libc::STDOUT_FILENO;
 use ring::{Judged, Ring, StepAnswer, Stepped, Verdict};
 

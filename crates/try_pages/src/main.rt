@@ -1,4 +1,6 @@
 // Prints the page of every sheet in data/: those of sheets/, and document 01's sheets that are run and compared.
+#![tactic(auto)]
+
 use libc::STDOUT_FILENO;
 
 fn say(text: &[u8]) {

@@ -1,6 +1,8 @@
 // Reads sheets and prints what each comes to: `name: read n marks slots`, or `name: refused NUMBER PLACE`.
 // The file `sheets` holds many, each its name between `=` and a line feed and then its bytes up to the next
 // `=`; two long ones have a file each.
+#![tactic(auto)]
+
 ghost use Rattle.std.specs.Prelude.{◌<◌, ◌≤◌, length};
 ghost use Rattle.io.specs.Counts.{IsPrefixLen};
 

@@ -1,4 +1,6 @@
 // What one seat makes of a slot: who speaks, what the seat sees of it, what it decides, and the seat after it.
+#![tactic(auto)]
+
 ghost use Rattle.std.specs.Prelude.{◌≡◌};
 ghost use Rattle.turn.specs.Table.{count_of};
 ghost use Rattle.turn.specs.Turn.{spoken_by, is_missed, view_of, fault_after, owner_turn, other_turn, turn_of};
@@ -7,14 +9,14 @@ pub mod calm; // calm.rt: the seats that are seen at once to keep all that they 
 mod table; // table.rt: the table, and whom a removal takes
 
 // What the owner puts on the bus in its slot.
-#[derive(Drop)]
+#[derive(Clone, Copy)]
 pub enum Spoken {
     Nothing,
     Bit(bool),
 }
 
 // What one seat sees of a slot.
-#[derive(Drop)]
+#[derive(Clone, Copy)]
 pub enum View {
     Silent,
     Missed,
@@ -22,7 +24,7 @@ pub enum View {
 }
 
 // Why a seat is removed: the letters of document 002, and e for its footnote 4.
-#[derive(Drop)]
+#[derive(Clone, Copy)]
 pub enum Cause {
     A,
     B,
@@ -32,7 +34,7 @@ pub enum Cause {
 }
 
 // Whom a seat removes from its set, each with its cause: itself before the owner.
-#[derive(Drop)]
+#[derive(Clone, Copy)]
 pub enum Removal {
     Nobody,
     Itself(Cause),
@@ -41,7 +43,7 @@ pub enum Removal {
 }
 
 // What a seat decides, beside the view that it decides from.
-#[derive(Drop)]
+#[derive(Clone, Copy)]
 pub struct Decision {
     pub view: View,
     pub removal: Removal,
@@ -50,7 +52,7 @@ pub struct Decision {
 
 // What all seats share in a slot: the owner and what it speaks, the marks, and the time plus one, as which a
 // first fault in this slot is kept.
-#[derive(Drop)]
+#[derive(Clone, Copy)]
 pub struct Slot {
     pub owner: usize,
     pub spoken: Spoken,
@@ -60,7 +62,7 @@ pub struct Slot {
 }
 
 // One seat of a ring. Its first fault is kept as its time plus one, and 0 is none.
-#[derive(Drop)]
+#[derive(Clone, Copy)]
 pub struct Seat {
     pub set: u32,
     pub ack: bool,
@@ -69,7 +71,7 @@ pub struct Seat {
 }
 
 // A seat after the slot, and whom it removed.
-#[derive(Drop)]
+#[derive(Clone, Copy)]
 pub struct Turn {
     pub seat: Seat,
     pub removal: Removal,

@@ -5,7 +5,7 @@ ghost use Rattle.turn.specs.Table.{row, table, arrived, bit_of, decided, gone_by
 use crate::{Cause, Decision, Removal, View};
 
 // The table's last columns: who is removed, with the cause, and the new acknowledgement.
-#[derive(Drop)]
+#[derive(Clone, Copy)]
 pub struct Row {
     pub removed: Removal,
     pub ack: bool,
