@@ -1,6 +1,6 @@
 -- `through`: each turn gathers a mark or takes a step, and what is left of the run comes to what the whole
 -- does. Assumes nothing.
-use Rattle.std.proofs.Common.{◌≡◌, List, ℕ, ◌<◌, sym, ap, ◌∙◌, subst, arith}
+use Rattle.std.proofs.Common.{◌≡◌, List, ℕ, ◌<◌, sym, ap, ◌∙◌, subst}
 use mathlib.Core.Logic.{inl, inr}
 use Rattle.turn.specs.Turn.{spoken_by}
 use Rattle.ring.specs.Ring.{seat_of}
@@ -8,7 +8,7 @@ use Rattle.ring.specs.Refusals.{step_tells}
 use Rattle.ring.specs.Promise.{StepPromise}
 use Rattle.ring.specs.declared.Ring.{Ring}
 use Rattle.ring.specs.declared.Stepped.{Stepped}
-use Rattle.sheet.specs.Good.{heard_in, GoodSheet}
+use Rattle.sheet.specs.Good.{GoodSheet}
 use Rattle.sheet.specs.declared.Sheet.{Sheet}
 use Rattle.run.specs.Marks.{owner_at}
 use Rattle.run.specs.Outcome.{Result}
@@ -49,8 +49,8 @@ pub returns-then-spoken-sheet : goal.returns-then-spoken-sheet
 returns-then-spoken-sheet c =
     let l = c.loop-at in
     let whole : Whole c.args.sheet l.at l.gathered =
-            all_gathered c.args.sheet c.requires l.at l.gathered l.invariant.gathers
-            (elim c.if-next-sheet.branch [ then-next-sheet+else-mark-at w ↦ inr w.if-mark-at.false | else-next-sheet w ↦ inl w.if-next-sheet.false ]) in
+    all_gathered c.args.sheet c.requires l.at l.gathered l.invariant.gathers
+    (elim c.if-next-sheet.branch [ then-next-sheet+else-mark-at w ↦ inr w.if-mark-at.false | else-next-sheet w ↦ inl w.if-next-sheet.false ]) in
     leaves c.args.sheet l.ring l.trail _ _ c.judged.ensures
     (going_differs l.invariant c.requires c.loop-at-test.true whole
     (λ e. c.if-spoken-sheet.true (said c.args.sheet l.ring l.gathered l.at l.invariant c.requires c.loop-at-test.true whole c.given_by-given.ensures c.spoken.ensures ∙ e)))
@@ -59,8 +59,8 @@ pub returns-in-Refused : goal.returns-in-Refused
 returns-in-Refused c =
     let l = c.loop-at in
     let whole : Whole c.args.sheet l.at l.gathered =
-            all_gathered c.args.sheet c.requires l.at l.gathered l.invariant.gathers
-            (elim c.if-next-sheet.branch [ then-next-sheet+else-mark-at w ↦ inr w.if-mark-at.false | else-next-sheet w ↦ inl w.if-next-sheet.false ]) in
+    all_gathered c.args.sheet c.requires l.at l.gathered l.invariant.gathers
+    (elim c.if-next-sheet.branch [ then-next-sheet+else-mark-at w ↦ inr w.if-mark-at.false | else-next-sheet w ↦ inl w.if-next-sheet.false ]) in
     let heard = sym (said c.args.sheet l.ring l.gathered l.at l.invariant c.requires c.loop-at-test.true whole c.given_by-given.ensures c.spoken.ensures) ∙ c.if-spoken-sheet.false in
     leaves c.args.sheet c.step-stepped.result.ring c.step-stepped.new.trail _ _ c.refused.ensures
     (going_stops l.invariant c.requires c.loop-at-test.true whole heard (promise c.args.sheet l.ring l.gathered l.at c.given_by-given.ensures c.step-stepped.ensures) (ap step_tells c.in-Refused.is))
@@ -69,8 +69,8 @@ pub loop-at-preserved : goal.loop-at-preserved
 loop-at-preserved c =
     let l = c.loop-at in
     let whole : Whole c.args.sheet l.at l.gathered =
-            all_gathered c.args.sheet c.requires l.at l.gathered l.invariant.gathers
-            (elim c.if-next-sheet.branch [ then-next-sheet+else-mark-at w ↦ inr w.if-mark-at.false | else-next-sheet w ↦ inl w.if-next-sheet.false ]) in
+    all_gathered c.args.sheet c.requires l.at l.gathered l.invariant.gathers
+    (elim c.if-next-sheet.branch [ then-next-sheet+else-mark-at w ↦ inr w.if-mark-at.false | else-next-sheet w ↦ inl w.if-next-sheet.false ]) in
     let heard = sym (said c.args.sheet l.ring l.gathered l.at l.invariant c.requires c.loop-at-test.true whole c.given_by-given.ensures c.spoken.ensures) ∙ c.if-spoken-sheet.false in
     rw c.slot_over-gathered.ensures
     (going_on l.invariant c.requires c.loop-at-test.true whole heard (promise c.args.sheet l.ring l.gathered l.at c.given_by-given.ensures c.step-stepped.ensures) (ap step_tells c.in_default.is))
