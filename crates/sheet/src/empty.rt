@@ -5,6 +5,7 @@ ghost use Rattle.sheet.specs.Sheets.{no_modules, no_marks, no_slots, no_sheet};
 
 use crate::{Mark, Sheet};
 
+#[tactic(auto, unfolding(crate::specs::Sheets::no_modules))]
 pub fn no_modules() -> [u16; limits::SEATS_MOST]
     ensures { result ≡ no_modules }
 {
@@ -21,12 +22,14 @@ pub fn no_mark() -> Mark
     }
 }
 
+#[tactic(auto, unfolding(crate::specs::Sheets::no_marks))]
 pub fn no_marks() -> [Mark; limits::MARKS_MOST]
     ensures { result ≡ no_marks }
 {
     [no_mark(); limits::MARKS_MOST]
 }
 
+#[tactic(auto, unfolding(crate::specs::Sheets::no_slots))]
 pub fn no_slots() -> [u8; limits::SLOTS_MOST]
     ensures { result ≡ no_slots }
 {

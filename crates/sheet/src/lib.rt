@@ -65,6 +65,7 @@ fn stopped(end: Piece) -> Whole
 }
 
 // Ring, marks and slots, each a count and as many lines, and no bytes after them.
+#[tactic(auto, unfolding(crate::specs::Sheets::sheet_in))]
 fn sheet_in(bytes: &[u8]) -> Whole
     ensures { result ≡ whole_of (sheet_in bytes.now) }
 {

@@ -45,6 +45,7 @@ fn no_line(end: Piece) -> Line
 }
 
 // `time seat kind`, to the line's end.
+#[tactic(auto, unfolding(crate::specs::Marks::fields_at))]
 fn fields(s: &[u8], at: usize) -> Line
     ensures { fields_of result ≡ fields_at s.now at }
 {

@@ -61,6 +61,7 @@ impl Class {
 }
 
 // Can the byte stand where this is wanted?
+#[tactic(auto, using(crate::proofs::ByteLaws::suits))]
 fn fits(b: u8, want: Want) -> bool
     ensures { result ≡ can_be want b }
 {
@@ -83,6 +84,7 @@ fn fits(b: u8, want: Want) -> bool
 }
 
 // The byte at a place, where it is one that is wanted.
+#[tactic(auto, unfolding(crate::specs::Bytes::byte_at))]
 pub fn byte(s: &[u8], at: usize, want: Want) -> Piece
     ensures { found_of result ≡ byte_at (can_be want) s.now at }
 {

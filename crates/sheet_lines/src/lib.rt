@@ -44,6 +44,7 @@ pub enum Piece {
 }
 
 // The end of a line: how many bytes it took, and the place after it. No one else knows what ends a line.
+#[tactic(auto, unfolding(crate::specs::Lines::end_at))]
 fn end(s: &[u8], at: usize) -> Piece
     ensures { found_of result ≡ end_at s.now at }
 {
@@ -55,6 +56,7 @@ fn end(s: &[u8], at: usize) -> Piece
 }
 
 // What was found, where its line ends after it.
+#[tactic(auto, unfolding(crate::specs::Lines::ended))]
 fn to_end(s: &[u8], last: Piece) -> Piece
     ensures { found_of result ≡ ended s.now (found_of last) }
 {
@@ -69,6 +71,7 @@ fn to_end(s: &[u8], last: Piece) -> Piece
 }
 
 // A number alone on its line, from `least` to `most`.
+#[tactic(auto, unfolding(crate::specs::Lines::line_at))]
 pub fn line(s: &[u8], at: usize, least: usize, most: usize) -> Piece
     ensures { found_of result ≡ line_at least most s.now at }
 {
@@ -86,6 +89,7 @@ pub fn line(s: &[u8], at: usize, least: usize, most: usize) -> Piece
 }
 
 // A number and one space.
+#[tactic(auto, unfolding(crate::specs::Lines::spaced_at))]
 pub fn spaced(s: &[u8], at: usize) -> Piece
     ensures { found_of result ≡ spaced_at s.now at }
 {

@@ -30,6 +30,7 @@ fn digits(s: &[u8], start: usize, first: usize) -> Piece
 
 // 1 to 5 digits without a leading zero. What follows them decides the rest: a sixth digit, as one after a
 // leading zero, cannot stand there.
+#[tactic(auto, unfolding(crate::specs::Bytes::number_at))]
 pub fn number(s: &[u8], at: usize) -> Piece
     ensures { found_of result ≡ number_at s.now at }
 {
