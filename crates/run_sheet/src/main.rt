@@ -1,15 +1,33 @@
 // The run program: a sheet from standard input, its page to standard output, and nothing besides.
 #![tactic(auto)]
 
-use libc::{STDIN_FILENO, STDOUT_FILENO};
+ghost use Rattle.std.specs.Prelude.{◌≤◌, length, IfOk};
+
+use std::io;
+use std::io::{Read, Write};
 
 // At most so many bytes are read, and what was read is handed on.
 const SHEET_READ: usize = 16384;
 
-fn main() {
+// Reads until the buffer is full or the input ends: how many bytes then stand at its start.
+fn read_full(input: &mut impl Read, buffer: &mut [u8]) -> io::Result<usize>
+    ensures { IfOk result (λ n. n ≤ length buffer.new) }
+{
+    let mut got = 0;
+    for _ in 0..buffer.len() {
+        let n = input.read(&mut buffer[got..])?;
+        got += n;
+        if n == 0 || got == buffer.len() {
+            break;
+        }
+    }
+    Ok(got)
+}
+
+fn main(rt: HostRuntime) -> io::Result<()> {
     let mut sheet = [0u8; SHEET_READ];
-    let got = io::read_full(STDIN_FILENO, &mut sheet);
+    let got = read_full(&mut rt.stdin(), &mut sheet)?;
     let mut page = report::no_page();
     let length = sheet_page::page(&sheet[..got], &mut page);
-    io::write_all(STDOUT_FILENO, &page[..length]);
+    rt.stdout().write_all(&page[..length])
 }

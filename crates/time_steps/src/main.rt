@@ -2,16 +2,14 @@
 // never asserted.
 #![tactic(auto)]
 
-use libc::STDOUT_FILENO;
 use ring::Ring;
+use std::io;
 
 // So many slots without marks; the records that the ring then has.
 fn quiet_slots(start: Ring, trail: &mut [u8], slots: u16) -> u16 {
     let mut ring = start;
-    let mut left = slots;
-    while 0 < left {
+    for _ in 0..slots {
         ring = ring.step(false, 0, trail).ring;
-        left -= 1;
     }
     ring.records
 }
@@ -23,17 +21,14 @@ fn whole_run() -> u64 {
     quiet_slots(ring, &mut trail, 4095) as u64
 }
 
-fn say(records: u64) {
-    io::print_decimal(STDOUT_FILENO, records);
-    io::write_all(STDOUT_FILENO, b" records in each run\n");
+fn say(rt: &impl Print, records: u64) -> io::Result<()> {
+    println!(rt; "{records} records in each run")
 }
 
-fn main() {
+fn main(rt: HostRuntime) -> io::Result<()> {
     let mut records: u64 = 0;
-    let mut left: u16 = 100;
-    while 0 < left {
+    for _ in 0..100 {
         records = whole_run();
-        left -= 1;
     }
-    say(records);
+    say(&rt, records)
 }

@@ -1,60 +1,70 @@
 // Prints the page of every sheet in data/: those of sheets/, and document 01's sheets that are run and compared.
 #![tactic(auto)]
 
-use libc::STDOUT_FILENO;
+ghost use Rattle.std.specs.Prelude.{◌≤◌, length, IfOk};
 
-fn say(text: &[u8]) {
-    io::write_all(STDOUT_FILENO, text);
+use std::io::{Read, Write};
+use std::rt::Files;
+use std::{fs, io};
+
+// Reads until the buffer is full or the input ends: how many bytes then stand at its start.
+fn read_full(input: &mut impl Read, buffer: &mut [u8]) -> io::Result<usize>
+    ensures { IfOk result (λ n. n ≤ length buffer.new) }
+{
+    let mut got = 0;
+    for _ in 0..buffer.len() {
+        let n = input.read(&mut buffer[got..])?;
+        got += n;
+        if n == 0 || got == buffer.len() {
+            break;
+        }
+    }
+    Ok(got)
 }
 
 // The page of a sheet's bytes.
-fn show_page(bytes: &[u8]) {
+fn show_page(out: &mut impl Write, bytes: &[u8]) -> io::Result<()> {
     let mut page = report::no_page();
     let length = sheet_page::page(bytes, &mut page);
-    say(&page[..length]);
+    out.write_all(&page[..length])
 }
 
 // The sheet in a file of this name, below its name.
-fn show(name: &[u8]) {
-    say(name);
-    say(b"\n");
-    let file = os::open_read(name);
-    if file < 0 {
-        os::fail(name);
-        return;
-    }
+fn show(rt: &impl Files, out: &mut impl Write, name: &str) -> io::Result<()> {
+    writeln!(out, "{name}")?;
+    let mut file = fs::open(rt, name)?;
     let mut sheet = [0u8; 16384];
-    let got = io::read_full(file, &mut sheet);
-    libc::close(file);
-    show_page(&sheet[..got]);
+    let got = read_full(&mut file, &mut sheet)?;
+    show_page(out, &sheet[..got])
 }
 
-fn first_sheets() {
-    show(b"accepted.sheet");
-    show(b"alone.sheet");
-    show(b"bus-differs.sheet");
-    show(b"bytes-after.sheet");
-    show(b"dark.sheet");
-    show(b"duplicate-module.sheet");
-    show(b"empty-run.sheet");
-    show(b"ends-early.sheet");
-    show(b"first.sheet");
-    show(b"five-apart.sheet");
+fn first_sheets(rt: &impl Files, out: &mut impl Write) -> io::Result<()> {
+    show(rt, out, "accepted.sheet")?;
+    show(rt, out, "alone.sheet")?;
+    show(rt, out, "bus-differs.sheet")?;
+    show(rt, out, "bytes-after.sheet")?;
+    show(rt, out, "dark.sheet")?;
+    show(rt, out, "duplicate-module.sheet")?;
+    show(rt, out, "empty-run.sheet")?;
+    show(rt, out, "ends-early.sheet")?;
+    show(rt, out, "first.sheet")?;
+    show(rt, out, "five-apart.sheet")
 }
 
-fn more_sheets() {
-    show(b"four-apart.sheet");
-    show(b"leading-zero.sheet");
-    show(b"marks-not-ascending.sheet");
-    show(b"number-too-large.sheet");
-    show(b"one-more-byte.sheet");
-    show(b"out-by-e.sheet");
-    show(b"ring-of-32.sheet");
-    show(b"send-fault.sheet");
-    show(b"wrong-mark.sheet");
+fn more_sheets(rt: &impl Files, out: &mut impl Write) -> io::Result<()> {
+    show(rt, out, "four-apart.sheet")?;
+    show(rt, out, "leading-zero.sheet")?;
+    show(rt, out, "marks-not-ascending.sheet")?;
+    show(rt, out, "number-too-large.sheet")?;
+    show(rt, out, "one-more-byte.sheet")?;
+    show(rt, out, "out-by-e.sheet")?;
+    show(rt, out, "ring-of-32.sheet")?;
+    show(rt, out, "send-fault.sheet")?;
+    show(rt, out, "wrong-mark.sheet")
 }
 
-fn main() {
-    first_sheets();
-    more_sheets();
+fn main(rt: HostRuntime) -> io::Result<()> {
+    let mut out = rt.stdout();
+    first_sheets(&rt, &mut out)?;
+    more_sheets(&rt, &mut out)
 }

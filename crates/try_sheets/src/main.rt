@@ -3,39 +3,39 @@
 // `=`; two long ones have a file each.
 #![tactic(auto)]
 
-ghost use Rattle.std.specs.Prelude.{◌<◌, ◌≤◌, length};
-ghost use Rattle.io.specs.Counts.{IsPrefixLen};
+ghost use Rattle.std.specs.Prelude.{◌<◌, ◌≤◌, length, IfOk};
 
-use libc::STDOUT_FILENO;
 use sheet::ReadAnswer;
+use std::io::{Read, Write};
+use std::rt::Files;
+use std::{fs, io};
 
-fn say(text: &[u8]) {
-    io::write_all(STDOUT_FILENO, text);
+fn say(out: &mut impl Write, text: &[u8]) -> io::Result<()> {
+    out.write_all(text)
 }
 
-fn say_number(n: usize) {
-    say(b" ");
-    io::print_decimal(STDOUT_FILENO, n as u64);
+fn say_number(out: &mut impl Write, n: usize) -> io::Result<()> {
+    write!(out, " {n}")
 }
 
-fn report(name: &[u8], bytes: &[u8]) {
+fn report(out: &mut impl Write, name: &[u8], bytes: &[u8]) -> io::Result<()> {
     let reading = sheet::read(bytes);
     let answer = reading.answer;
-    say(name);
+    say(out, name)?;
     match answer {
         ReadAnswer::Read => {
-            say(b": read");
-            say_number(reading.sheet.n);
-            say_number(reading.sheet.mark_count);
-            say_number(reading.sheet.slot_count);
+            say(out, b": read")?;
+            say_number(out, reading.sheet.n)?;
+            say_number(out, reading.sheet.mark_count)?;
+            say_number(out, reading.sheet.slot_count)?;
         }
         ReadAnswer::Refused(why, place) => {
-            say(b": refused");
-            say_number(why.number() as usize);
-            say_number(place);
+            say(out, b": refused")?;
+            say_number(out, why.number() as usize)?;
+            say_number(out, place)?;
         }
     }
-    say(b"\n");
+    say(out, b"\n")
 }
 
 // The first place from `from` on where this byte stands, or the end.
@@ -43,59 +43,67 @@ fn find(file: &[u8], from: usize, byte: u8) -> usize
     requires { from ≤ length file.now }
     ensures { (from ≤ result) × (result ≤ length file.now) }
 {
-    let mut at = from;
-    while at < file.len() {
+    for at in from..file.len() {
         if file[at] == byte {
             return at;
         }
-        at += 1;
     }
-    at
+    file.len()
 }
 
 // The sheet whose `=` stands at this place, and the place after it.
-fn one(file: &[u8], at: usize) -> usize
+fn one(out: &mut impl Write, file: &[u8], at: usize) -> io::Result<usize>
     requires { at < length file.now }
-    ensures { (at < result) × (result ≤ length file.now) }
+    ensures { IfOk result (λ r. (at < r) × (r ≤ length file.now)) }
 {
     let name = at + 1;
     let line = find(file, name, b'\n');
     if line == file.len() {
-        return line;
+        return Ok(line);
     }
     let start = line + 1;
     let end = find(file, start, b'=');
-    report(&file[name..line], &file[start..end]);
-    end
+    report(out, &file[name..line], &file[start..end])?;
+    Ok(end)
 }
 
-fn each(file: &[u8]) {
+fn each(out: &mut impl Write, file: &[u8]) -> io::Result<()> {
     let mut at: usize = 0;
     while at < file.len() {
-        at = one(file, at);
+        at = one(out, file, at)?;
     }
+    Ok(())
+}
+
+// Reads until the buffer is full or the input ends: how many bytes then stand at its start.
+fn read_full(input: &mut impl Read, buffer: &mut [u8]) -> io::Result<usize>
+    ensures { IfOk result (λ n. n ≤ length buffer.new) }
+{
+    let mut got = 0;
+    for _ in 0..buffer.len() {
+        let n = input.read(&mut buffer[got..])?;
+        got += n;
+        if n == 0 || got == buffer.len() {
+            break;
+        }
+    }
+    Ok(got)
 }
 
 // What the file holds goes to the start of `buffer`.
-fn load(name: &[u8], buffer: &mut [u8]) -> usize
-    ensures { IsPrefixLen result buffer.new }
+fn load(rt: &impl Files, name: &str, buffer: &mut [u8]) -> io::Result<usize>
+    ensures { IfOk result (λ n. n ≤ length buffer.new) }
 {
-    let fd = os::open_read(name);
-    if fd < 0 {
-        os::fail(name);
-        return 0;
-    }
-    let n = io::read_full(fd, buffer);
-    libc::close(fd);
-    n
+    read_full(&mut fs::open(rt, name)?, buffer)
 }
 
-fn main() {
+fn main(rt: HostRuntime) -> io::Result<()> {
+    let mut out = rt.stdout();
     let mut buffer = [0u8; 20480];
-    let many = load(b"sheets", &mut buffer);
-    each(&buffer[..many]);
-    let longest = load(b"longest", &mut buffer);
-    report(b"longest", &buffer[..longest]);
-    let longer = load(b"longer", &mut buffer);
-    report(b"longer", &buffer[..longer]);
+    let many = load(&rt, "sheets", &mut buffer)?;
+    each(&mut out, &buffer[..many])?;
+    let longest = load(&rt, "longest", &mut buffer)?;
+    report(&mut out, b"longest", &buffer[..longest])?;
+    let longer = load(&rt, "longer", &mut buffer)?;
+    report(&mut out, b"longer", &buffer[..longer])
 }

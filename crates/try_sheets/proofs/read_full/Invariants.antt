@@ -1,0 +1,6 @@
+-- What was read stands within the buffer.
+use Rattle.std.proofs.Common.{◌≤◌, length}
+use Rattle.try_sheets.proofs.read_full.Given as goal
+
+abbrev pub invariant-loop : goal.invariant-loop
+invariant-loop g l = l.got ≤ length l.buffer
