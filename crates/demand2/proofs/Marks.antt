@@ -7,14 +7,13 @@ use Rattle.seats.proofs.Sets.{without_other}
 use Rattle.ring.specs.Ring.{seat_of, owner_of}
 use Rattle.turn.specs.Turn.{other_turn, turn_of}
 use Rattle.ring.specs.Step.{slot_of}
-use Rattle.ring.specs.declared.Ring.{Ring}
 use Rattle.turn.specs.declared.Seat.{Seat}
 use Rattle.turn.specs.declared.Slot.{Slot}
 use Rattle.turn.specs.declared.Spoken.{Spoken}
 use Rattle.turn.specs.declared.Spoken.TheVariants.{Nothing, Bit}
 use Rattle.turn.specs.declared.Turn.{Turn}
 use Rattle.turn.proofs.TurnLaws.{turn_out, turn_owner, turn_other, turn_still, turn_elim}
-use Rattle.demand2.specs.Marks.{speaks, send_holds, receive_holds, unmarked, IdleSend, IdleReceive, OwnReceive}
+use Rattle.demand2.specs.Marks.{speaks, unmarked, IdleSend, IdleReceive, OwnReceive}
 
 -- a seat that expects the owner hears nothing where the owner is silent, marked or not
 silent-same : (c : Slot) (p q : ℕ) (s : Seat) → speaks c.spoken ≡ false → other_turn (unmarked c q) p s ≡ other_turn c p s

@@ -38,7 +38,7 @@ module _ (n : ℕ) (trail : List ℕ) (low : seats_least ≤ n) (high : n ≤ se
       → verdict_found b.ring ≡ within
   unfolding run_on
   within-since run [] h = h
-  within-since run (m ∷ more) h = within_step run m (within-since (step_reached run m) more h)
+  within-since {b = b} run (m ∷ more) h = within_step run m (within-since {b = step_on m b} (step_reached run m) more h)
 
   -- first faults n + 1 slots apart are enough
   pub agreement_of : {b : Bench} → Reached n trail b → Apart (b.ring.n + 1) b.ring b.ring.time → Agreement b.ring

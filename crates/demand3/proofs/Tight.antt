@@ -1,6 +1,6 @@
 -- The fault terms are tight in their distance, agreement needs the distance alone, and a faulty seat may stay
 -- in its own set alone. Assumes nothing.
-use mathlib.Core.Bool.{true, false, not, false≢true}
+use mathlib.Core.Bool.{not, false≢true}
 use mathlib.Core.Path.{◌≡◌, refl, sym, ap, ◌∙◌}
 use Prim.Native.Nat.{ℕ, zero, suc}
 use native.Mathlib.Omega.{arith}

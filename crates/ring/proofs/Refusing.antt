@@ -7,7 +7,7 @@ use Prim.Native.Nat.{ℕ, ◌+◌}
 use lib.Dec.{leb, eqb}
 use lib.ListN.{length}
 use Rattle.limits.specs.Limits.{slots_most}
-use Rattle.limits.specs.Refusals.{number_of, Told, done, refused}
+use Rattle.limits.specs.Refusals.{number_of, done, refused}
 use Rattle.limits.specs.declared.Refusal.TheVariants.{WrongMark, NoRoom, AtTheEnd, NotARing}
 use Rattle.trail.specs.Trail.{room_for}
 use Rattle.ring.specs.Ring.{is_ring}

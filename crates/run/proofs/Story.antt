@@ -12,7 +12,7 @@ use Rattle.lists.specs.Counted.{tab}
 use Rattle.lists.proofs.Counted.{below_last}
 use Rattle.lists.proofs.Tests.{both}
 use Rattle.ring.specs.Refusals.{verdict_found}
-use Rattle.steps.specs.Run.{Bench, told_on, step_on, fresh_bench, taken, run_on}
+use Rattle.steps.specs.Run.{Bench, told_on, step_on, fresh_bench, run_on}
 use Rattle.limits.proofs.Refusals.{told_is}
 use Rattle.steps.proofs.Reached.{fresh-time, step_after, run-append}
 use Rattle.sheet.specs.Good.{heard_in}

@@ -103,6 +103,7 @@ fn is_allowed(n: usize, time: usize, seat: usize, kind: u8) -> bool
 }
 
 // The first offence of mark k after the last one: 3, then 5, then 6.
+#[tactic(auto, unfolding(crate::specs::Marks::mark_offence))]
 fn first_offence(n: usize, k: usize, last: Mark, time: usize, seat: usize, kind: u8) -> Check
     requires { 0 < n }
     ensures { offence_of result ≡ mark_offence n k last (mark time seat kind) }

@@ -20,6 +20,7 @@ enum Class {
     Other,
 }
 
+#[tactic(auto, unfolding(crate::specs::Classes::class_of))]
 fn classify(b: u8) -> Class
     ensures { result ≡ class_of b }
 {

@@ -11,7 +11,7 @@ use Rattle.limits.specs.Limits.{slots_most}
 use Rattle.ring.specs.Ring.{seat_of}
 use Rattle.turn.specs.Turn.{turn_of}
 use Rattle.ring.specs.Step.{slot_of, turn_at, count_in, ring_after, trail_after}
-use Rattle.trail.specs.Trail.{width, room_for}
+use Rattle.trail.specs.Trail.{width}
 use Rattle.ring.proofs.Records.{length-written}
 use Rattle.ring.specs.declared.Ring.{Ring}
 use Rattle.turn.specs.declared.Slot.{Slot}

@@ -18,6 +18,7 @@ pub struct Place {
     pub whole: bool,
 }
 
+#[tactic(auto, unfolding(crate::specs::Lent::with_byte))]
 pub fn put_byte(page: &mut [u8], place: Place, byte: u8) -> Place
     ensures { lent result page.new ≡ with_byte (lent place page.old) byte }
 {
