@@ -8,14 +8,16 @@ from pathlib import Path
 
 ROOT = Path(__file__).resolve().parent.parent
 CRATES = ROOT / "crates"
-# the libraries of the Rattle kit
-KIT = {"std", "check", "libc", "io", "os", "bytes"}
+# the libraries of the Rattle kit that a program stands on
+KIT = {"core", "io", "libc", "os", "std", "std_alloc", "std_collections", "std_heap", "std_io"}
 
 
 def crates():
-    """The crates that crates.txt lists."""
+    """The crates that crates.txt lists, each with the libraries that it rests on."""
     lines = (ROOT / "crates.txt").read_text().splitlines()
-    return [line.split(":")[0].strip() for line in lines if line.strip() and not line.startswith("#")]
+    parts = [line.partition(":") for line in lines if line.strip() and not line.startswith("#")]
+    # behind a crate's name stands what is built of it, where that is no library and no program
+    return {settings.split()[0]: below.split() for settings, _, below in parts}
 
 
 def is_program(crate):

@@ -4,7 +4,7 @@ use std::path::{Path, PathBuf};
 use std::process::Command;
 
 /// The proved library, from the folder of this package.
-const ARCHIVE: &str = "../target/staticlib/libcabi.a";
+const ARCHIVE: &str = "../crates/cabi/out/libcabi.a";
 
 fn main() {
     println!("cargo::rerun-if-changed=build.rs");
@@ -21,8 +21,8 @@ fn main() {
 fn build() -> Result<(), String> {
     let archive = Path::new(&variable("CARGO_MANIFEST_DIR")).join(ARCHIVE);
     if !archive.is_file() {
-        return Err("the proved library target/staticlib/libcabi.a is not built yet\n\
-                    run `rt staticlib cabi` at the root of the repository first; it proves the code, which takes some minutes"
+        return Err("the proved library crates/cabi/out/libcabi.a is not built yet\n\
+                    run `rt lib` in crates/cabi first; it proves the code, which takes some minutes"
             .to_string());
     }
     if variable("CARGO_CFG_TARGET_ARCH") == "x86_64" {

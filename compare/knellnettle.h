@@ -33,9 +33,9 @@ extern "C" {
  * The function keeps nothing between calls and allocates nothing; threads may call it at the
  * same time, each with a page buffer of its own.
  *
- * Link with target/staticlib/libcabi.a, which `rt staticlib cabi` builds (x86-64 Linux):
+ * Link with crates/cabi/out/libcabi.a, which `rt lib` in crates/cabi builds (x86-64 Linux):
  *
- *   cc -O2 -Icompare program.c target/staticlib/libcabi.a -o program
+ *   cc -O2 -Icompare program.c crates/cabi/out/libcabi.a -o program
  */
 size_t knellnettle_page(const uint8_t *sheet, size_t sheet_len, uint8_t *page, size_t page_len);
 
