@@ -32,8 +32,8 @@ ascends k last m = eqb k 0 || above last m
 -- a send mark is for the owner of the slot, a receive mark for another seat
 abbrev pub allowed : ℕ → Mark → Bool
 allowed n m =
-    let isOwner = eqb m.seat (m.time % n) in
-    cond (eqb m.kind send) isOwner (cond (eqb m.kind receive) (not isOwner) true)
+    let is_owner = eqb m.seat (m.time % n) in
+    cond (eqb m.kind send) is_owner (cond (eqb m.kind receive) (not is_owner) true)
 
 -- why mark k of a ring of n seats cannot stand after the last one: 3, then 5, then 6
 unfoldable pub mark_offence : ℕ → ℕ → Mark → Mark → Option Refusal

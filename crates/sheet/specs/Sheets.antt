@@ -23,8 +23,8 @@ no_slots = replicate slots_most 0
 
 -- each count with its entries
 abbrev pub sheet_from : ℕ → List ℕ → ℕ → List Mark → ℕ → List ℕ → Sheet
-sheet_from n modules markCount marks slotCount slots =
-    record { n = n; modules = modules; mark_count = markCount; marks = marks; slot_count = slotCount; slots = slots }
+sheet_from n modules mark_count marks slot_count slots =
+    record { n = n; modules = modules; mark_count = mark_count; marks = marks; slot_count = slot_count; slots = slots }
 
 -- no seats, marks or slots, and all entries zero
 abbrev pub no_sheet : Sheet
@@ -36,11 +36,11 @@ sheet_in bytes =
     and_then (count_line seats_least seats_most bytes 0)
     (λ n at. and_then (entries_at (module_line bytes) no_modules n at)
     (λ modules at. and_then (count_line 0 marks_most bytes at)
-    (λ markCount at. and_then (entries_at (mark_line n bytes) no_marks markCount at)
+    (λ mark_count at. and_then (entries_at (mark_line n bytes) no_marks mark_count at)
     (λ marks at. and_then (count_line 0 slots_most bytes at)
-    (λ slotCount at. and_then (entries_at (slot_line bytes) no_slots slotCount at)
+    (λ slot_count at. and_then (entries_at (slot_line bytes) no_slots slot_count at)
     (λ slots end.
-    cond (ltb end (length bytes)) (offence BytesAfter end) (found (sheet_from n modules markCount marks slotCount slots) end)))))))
+    cond (ltb end (length bytes)) (offence BytesAfter end) (found (sheet_from n modules mark_count marks slot_count slots) end)))))))
 
 -- ---- what is promised of a reading
 

@@ -132,8 +132,8 @@ reader_refusals bytes =
     only_then (count_line seats_least seats_most bytes 0) _ (line-only seats_least seats_most bytes 0)
     (λ n at. only_then (entries_at (module_line bytes) no_modules n at) _ (lines-only (module_line bytes) (module_only bytes) n at 0 no_modules)
     (λ modules at. only_then (count_line 0 marks_most bytes at) _ (line-only 0 marks_most bytes at)
-    (λ markCount at. only_then (entries_at (mark_line n bytes) no_marks markCount at) _ (lines-only (mark_line n bytes) (mark-only n bytes) markCount at 0 no_marks)
+    (λ mark_count at. only_then (entries_at (mark_line n bytes) no_marks mark_count at) _ (lines-only (mark_line n bytes) (mark-only n bytes) mark_count at 0 no_marks)
     (λ marks at. only_then (count_line 0 slots_most bytes at) _ (line-only 0 slots_most bytes at)
-    (λ slotCount at. only_then (entries_at (slot_line bytes) no_slots slotCount at) _ (lines-only (slot_line bytes) (slot-only bytes) slotCount at 0 no_slots)
+    (λ slot_count at. only_then (entries_at (slot_line bytes) no_slots slot_count at) _ (lines-only (slot_line bytes) (slot-only bytes) slot_count at 0 no_slots)
     (λ slots end.
-    only-cond (ltb end (length bytes)) _ _ (only-offence BytesAfter end refl) (only-found (sheet_from n modules markCount marks slotCount slots) end)))))))
+    only-cond (ltb end (length bytes)) _ _ (only-offence BytesAfter end refl) (only-found (sheet_from n modules mark_count marks slot_count slots) end)))))))

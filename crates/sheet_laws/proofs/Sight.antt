@@ -153,13 +153,13 @@ sheet-stops s =
     then-stops a (λ t. entries_at (module_line t) no_modules n a) _ s before near (lines_see module_line s (module_sees s) n a 0 no_modules l)
     (λ modules b e l.
     then-stops b (λ t. count_line 0 marks_most t b) _ s before near (count-sees 0 marks_most s b)
-    (λ markCount c e l.
-    then-stops c (λ t. entries_at (mark_line n t) no_marks markCount c) _ s before near (lines_see (mark_line n) s (mark-sees n s) markCount c 0 no_marks l)
+    (λ mark_count c e l.
+    then-stops c (λ t. entries_at (mark_line n t) no_marks mark_count c) _ s before near (lines_see (mark_line n) s (mark-sees n s) mark_count c 0 no_marks l)
     (λ marks d e l.
     then-stops d (λ t. count_line 0 slots_most t d) _ s before near (count-sees 0 slots_most s d)
-    (λ slotCount f e l.
-    then-stops f (λ t. entries_at (slot_line t) no_slots slotCount f) _ s before near (lines_see slot_line s (slot-sees s) slotCount f 0 no_slots l)
-    (λ slots end e l. last-stops s end (sheet_from n modules markCount marks slotCount slots)))))))
+    (λ slot_count f e l.
+    then-stops f (λ t. entries_at (slot_line t) no_slots slot_count f) _ s before near (lines_see slot_line s (slot-sees s) slot_count f 0 no_slots l)
+    (λ slots end e l. last-stops s end (sheet_from n modules mark_count marks slot_count slots)))))))
 
 -- 1 is given at the sheet's length
 pub refused-early : (s : List ℕ) (place : ℕ) → sheet_in s ≡ offence EndsEarly place → place ≡ length s
