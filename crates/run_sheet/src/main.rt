@@ -1,7 +1,7 @@
 // The run program: a sheet from standard input, its page to standard output, and nothing besides.
 #![tactic(auto)]
 
-ghost use Rattle.std.specs.Prelude.{◌≤◌, length, IfOk};
+ghost use Rattle.std.specs.Prelude.{◌≡◌, ◌≤◌, length, IfOk, OnErr};
 
 use std::io;
 use std::io::{Read, Write};
@@ -9,9 +9,11 @@ use std::io::{Read, Write};
 // At most so many bytes are read, and what was read is handed on.
 const SHEET_READ: usize = 16384;
 
-// Reads until the buffer is full or the input ends: how many bytes then stand at its start.
+// Reads until the buffer is full or the input ends: how many bytes then stand at its start. An error leaves the
+// buffer its length, and of what it holds nothing is said.
 fn read_full(input: &mut impl Read, buffer: &mut [u8]) -> io::Result<usize>
-    ensures { IfOk result (λ n. n ≤ length buffer.new) }
+    ensures ok { IfOk result (λ n. n ≤ length buffer.new) }
+    ensures err { OnErr result (length buffer.new ≡ length buffer.old) }
 {
     let mut got = 0;
     for _ in 0..buffer.len() {
