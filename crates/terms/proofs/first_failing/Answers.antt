@@ -14,19 +14,19 @@ stand n l h = and_of (le-leb 2 n l) (le-leb n 32 h)
 pub returns-then-found-eq0 : goal.returns-then-found-eq0
 returns-then-found-eq0 c =
     let a = c.args in
-    rw (stand a.n c.if-n-lt-SEATS_LEAST.false c.if-n-gt-SEATS_MOST.false)
-    (sym (none_found a.n a.faults c.if-n-lt-SEATS_LEAST.false a.time (λ h. omega (arith, c.if-found-eq0.true, c.first_found-found.ensures))))
+    rw (stand a.n (omega arith) (omega arith))
+    (sym (none_found a.n a.faults (omega arith) a.time (λ h. omega (arith, c.first_found-found.ensures))))
 
 pub returns-then-found-time : goal.returns-then-found-time
 returns-then-found-time c =
     let a = c.args in
     let k = c.first_found-found.result in
-    let f : first_found a.n a.faults ≡ suc (k - 1) = sym c.first_found-found.ensures ∙ omega (arith, c.if-found-eq0.false) in
-    rw (stand a.n c.if-n-lt-SEATS_LEAST.false c.if-n-gt-SEATS_MOST.false)
-    (sym (one_found a.n a.faults c.if-n-lt-SEATS_LEAST.false a.time (k - 1) f (omega (arith, c.if-found-time.true, c.if-found-eq0.false))))
+    let f : first_found a.n a.faults ≡ suc (k - 1) = sym c.first_found-found.ensures ∙ omega arith in
+    rw (stand a.n (omega arith) (omega arith))
+    (sym (one_found a.n a.faults (omega arith) a.time (k - 1) f (omega arith)))
 
 pub returns : goal.returns
 returns c =
     let a = c.args in
-    rw (stand a.n c.if-n-lt-SEATS_LEAST.false c.if-n-gt-SEATS_MOST.false)
-    (sym (none_found a.n a.faults c.if-n-lt-SEATS_LEAST.false a.time (λ h. omega (arith, c.if-found-time.false, c.first_found-found.ensures))))
+    rw (stand a.n (omega arith) (omega arith))
+    (sym (none_found a.n a.faults (omega arith) a.time (λ h. omega (arith, c.first_found-found.ensures))))
