@@ -1,7 +1,7 @@
 // The run program: a sheet from standard input, its page to standard output, and nothing besides.
 #![tactic(auto)]
 
-ghost use Rattle.std.specs.Prelude.{◌≤◌, length, IfOk};
+ghost use Rattle.std.specs.Io.{ReadsAtMost};
 
 use std::io;
 use std::io::{Read, Write};
@@ -11,7 +11,7 @@ const SHEET_READ: usize = 16384;
 
 // Reads until the buffer is full or the input ends: how many bytes then stand at its start.
 fn read_full(input: &mut impl Read, buffer: &mut [u8]) -> io::Result<usize>
-    ensures { IfOk result (λ n. n ≤ length buffer.new) }
+    ensures { ReadsAtMost result buffer.new }
 {
     let mut got = 0;
     for _ in 0..buffer.len() {

@@ -1,7 +1,7 @@
 // Prints the page of every sheet in data/: those of sheets/, and document 01's sheets that are run and compared.
 #![tactic(auto)]
 
-ghost use Rattle.std.specs.Prelude.{◌≤◌, length, IfOk};
+ghost use Rattle.std.specs.Io.{ReadsAtMost};
 
 use std::io::{Read, Write};
 use std::rt::Files;
@@ -9,7 +9,7 @@ use std::{fs, io};
 
 // Reads until the buffer is full or the input ends: how many bytes then stand at its start.
 fn read_full(input: &mut impl Read, buffer: &mut [u8]) -> io::Result<usize>
-    ensures { IfOk result (λ n. n ≤ length buffer.new) }
+    ensures { ReadsAtMost result buffer.new }
 {
     let mut got = 0;
     for _ in 0..buffer.len() {

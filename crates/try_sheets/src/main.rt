@@ -4,6 +4,7 @@
 #![tactic(auto)]
 
 ghost use Rattle.std.specs.Prelude.{◌<◌, ◌≤◌, length, IfOk};
+ghost use Rattle.std.specs.Io.{ReadsAtMost};
 
 use sheet::ReadAnswer;
 use std::io::{Read, Write};
@@ -77,7 +78,7 @@ fn each(out: &mut impl Write, file: &[u8]) -> io::Result<()> {
 
 // Reads until the buffer is full or the input ends: how many bytes then stand at its start.
 fn read_full(input: &mut impl Read, buffer: &mut [u8]) -> io::Result<usize>
-    ensures { IfOk result (λ n. n ≤ length buffer.new) }
+    ensures { ReadsAtMost result buffer.new }
 {
     let mut got = 0;
     for _ in 0..buffer.len() {
@@ -92,7 +93,7 @@ fn read_full(input: &mut impl Read, buffer: &mut [u8]) -> io::Result<usize>
 
 // What the file holds goes to the start of `buffer`.
 fn load(rt: &impl Files, name: &str, buffer: &mut [u8]) -> io::Result<usize>
-    ensures { IfOk result (λ n. n ≤ length buffer.new) }
+    ensures { ReadsAtMost result buffer.new }
 {
     read_full(&mut fs::open(rt, name)?, buffer)
 }
