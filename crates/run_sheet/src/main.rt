@@ -1,7 +1,8 @@
 // The run program: a sheet from standard input, its page to standard output, and nothing besides.
 #![tactic(auto)]
 
-ghost use Rattle.std.specs.Prelude.{◌≡◌, ◌≤◌, length, IfOk, OnErr};
+ghost use Rattle.std.specs.Io.{ReadsAtMost};
+ghost use Rattle.std.specs.Prelude.{◌≡◌, length, OnErr};
 
 use std::io;
 use std::io::{Read, Write};
@@ -12,7 +13,7 @@ const SHEET_READ: usize = 16384;
 // Reads until the buffer is full or the input ends: how many bytes then stand at its start. An error leaves the
 // buffer its length, and of what it holds nothing is said.
 fn read_full(input: &mut impl Read, buffer: &mut [u8]) -> io::Result<usize>
-    ensures ok { IfOk result (λ n. n ≤ length buffer.new) }
+    ensures ok { ReadsAtMost result buffer.new }
     ensures err { OnErr result (length buffer.new ≡ length buffer.old) }
 {
     let mut got = 0;

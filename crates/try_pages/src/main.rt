@@ -1,7 +1,8 @@
 // Prints the page of every sheet in data/: those of sheets/, and document 01's sheets that are run and compared.
 #![tactic(auto)]
 
-ghost use Rattle.std.specs.Prelude.{◌≡◌, ◌≤◌, length, IfOk, OnErr};
+ghost use Rattle.std.specs.Io.{ReadsAtMost};
+ghost use Rattle.std.specs.Prelude.{◌≡◌, length, OnErr};
 
 use std::io::{Read, Write};
 use std::rt::Files;
@@ -10,7 +11,7 @@ use std::{fs, io};
 // Reads until the buffer is full or the input ends: how many bytes then stand at its start. An error leaves the
 // buffer its length, and of what it holds nothing is said.
 fn read_full(input: &mut impl Read, buffer: &mut [u8]) -> io::Result<usize>
-    ensures ok { IfOk result (λ n. n ≤ length buffer.new) }
+    ensures ok { ReadsAtMost result buffer.new }
     ensures err { OnErr result (length buffer.new ≡ length buffer.old) }
 {
     let mut got = 0;

@@ -3,6 +3,7 @@
 // `=`; two long ones have a file each.
 #![tactic(auto)]
 
+ghost use Rattle.std.specs.Io.{ReadsAtMost};
 ghost use Rattle.std.specs.Prelude.{◌<◌, ◌≡◌, ◌≤◌, length, IfOk, OnErr};
 
 use sheet::ReadAnswer;
@@ -78,7 +79,7 @@ fn each(out: &mut impl Write, file: &[u8]) -> io::Result<()> {
 // Reads until the buffer is full or the input ends: how many bytes then stand at its start. An error leaves the
 // buffer its length, and of what it holds nothing is said.
 fn read_full(input: &mut impl Read, buffer: &mut [u8]) -> io::Result<usize>
-    ensures ok { IfOk result (λ n. n ≤ length buffer.new) }
+    ensures ok { ReadsAtMost result buffer.new }
     ensures err { OnErr result (length buffer.new ≡ length buffer.old) }
 {
     let mut got = 0;
@@ -94,7 +95,7 @@ fn read_full(input: &mut impl Read, buffer: &mut [u8]) -> io::Result<usize>
 
 // What the file holds goes to the start of `buffer`. An error is as in `read_full`.
 fn load(rt: &impl Files, name: &str, buffer: &mut [u8]) -> io::Result<usize>
-    ensures ok { IfOk result (λ n. n ≤ length buffer.new) }
+    ensures ok { ReadsAtMost result buffer.new }
     ensures err { OnErr result (length buffer.new ≡ length buffer.old) }
 {
     read_full(&mut fs::open(rt, name)?, buffer)
