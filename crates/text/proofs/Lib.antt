@@ -2,3 +2,4 @@
 pub mod Decimals
 pub mod Writing
 pub mod Written
+pub mod NumberRules

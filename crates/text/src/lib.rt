@@ -46,6 +46,7 @@ pub fn put_word(page: &mut [u8], place: Place, word: &[u8]) -> Place
 }
 
 // A number's decimal digits: its tens first, and then its last digit.
+#[tactic(auto, using(crate::proofs::NumberRules::number_rules))]
 pub fn put_number(page: &mut [u8], place: Place, n: usize) -> Place
     ensures { lent result page.new ≡ with_text (lent place page.old) (decimal n) }
 {

@@ -1,4 +1,4 @@
--- `mark_lines`: each line goes on with a mark that keeps to the rules, or stops with its offence. Assumes nothing.
+-- `mark_lines`: each line goes on with a mark that is kept, or stops with its offence. Assumes nothing.
 use Rattle.std.proofs.Common.{arith, ◌+◌, ◌-◌, ◌≡◌, sym, ap, ◌∙◌}
 use Rattle.std.proofs.Math.ListN.{length-set}
 use Rattle.std.proofs.Math.Seq.{get_or-set_same}
