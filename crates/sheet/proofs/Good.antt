@@ -135,13 +135,13 @@ read-good s sheet end e =
       ascending = λ i l. above-last i sheet.marks (get_or sheet.marks (suc i) no_mark) (marks (suc i) (omega arith) (omega arith)).0.above;
       slotted = h.high;
       heard = λ i l. slots i (omega arith) (omega arith);
-      no_modules_lem = λ i l k.
+      no_modules = λ i l k.
           lines-others 0 (module_line s) (λ at k b a n q. let f = makes_module s at k b a n q in (f.0, f.1)) _ _ 0 _ _ _ r.lines i (inr (omega arith))
           ∙ get_or-replicate seats_most i 0 0 k;
-      no_marks_lem = λ i l k.
+      no_marks = λ i l k.
           lines-others no_mark (mark_line n s) (λ at k b a o q. let f = makes_mark s n at k b a o q in (f.0, f.1)) _ _ 0 _ _ _ m.lines i (inr (omega arith))
           ∙ get_or-replicate marks_most i no_mark no_mark k;
-      no_slots_lem = λ i l k.
+      no_slots = λ i l k.
           lines-others 0 (slot_line s) (λ at k b a n q. let f = makes_slot s at k b a n q in (f.0, f.1)) _ _ 0 _ _ _ h.lines i (inr (omega arith))
           ∙ get_or-replicate slots_most i 0 0 k;
     }

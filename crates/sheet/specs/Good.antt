@@ -33,6 +33,6 @@ pub record GoodSheet (sheet : Sheet) : Type 0 where
   pub slotted : sheet.slot_count ≤ slots_most
   pub heard : (i : ℕ) → i < sheet.slot_count → is_heard (heard_in sheet i) ≡ true
   -- the entries past each count are zero
-  pub no_modules_lem : (i : ℕ) → sheet.n ≤ i → i < seats_most → module_of sheet i ≡ 0
-  pub no_marks_lem : (i : ℕ) → sheet.mark_count ≤ i → i < marks_most → mark_of sheet i ≡ no_mark
-  pub no_slots_lem : (i : ℕ) → sheet.slot_count ≤ i → i < slots_most → heard_in sheet i ≡ 0
+  pub no_modules : (i : ℕ) → sheet.n ≤ i → i < seats_most → module_of sheet i ≡ 0
+  pub no_marks : (i : ℕ) → sheet.mark_count ≤ i → i < marks_most → mark_of sheet i ≡ no_mark
+  pub no_slots : (i : ℕ) → sheet.slot_count ≤ i → i < slots_most → heard_in sheet i ≡ 0
