@@ -24,7 +24,7 @@ use Rattle.turn.specs.declared.Seat.{Seat}
 use Rattle.steps.specs.Run.{Marks, quiet, send_fault, Bench, told_on, step_on, fresh_bench, Reached, start, taken}
 use Rattle.limits.proofs.Refusals.{not_done}
 use Rattle.demand2.specs.Empty.{Program, made, on, Keeps, RefusesAll, refuser, Constant, constantly, StandsStill, sleeper, FirstOnly, first_timer, Invents, inventor}
-use Rattle.demand2.specs.Refused.{Answered, not_a_ring, wrong-mark, at_the_end, no_room}
+use Rattle.demand2.specs.Refused.{Answered, not_a_ring, wrong_mark, at_the_end, no_room}
 use Rattle.demand2.specs.Refused as row
 use Rattle.demand2.proofs.Refused.{answers}
 use Rattle.demand2.proofs.Sum.{reached_sum}
@@ -100,15 +100,15 @@ constant f kind keeps =
     omega (arith, sym time₀ ∙ x ∙ time₁)
 
 -- one that steps without changing anything
-pub stands-still : ShutOut StandsStill
-stands-still f kind keeps =
+pub stands_still : ShutOut StandsStill
+stands_still f kind keeps =
     let a = (at₀ f keeps send_fault (omega arith)).ring in
     let k = kind bench₀.ring send_fault.send send_fault.receive bench₀.trail 1 in
     omega (arith, sym set₀.0 ∙ ap (λ (r : Ring). (seat_of r 1).set) (sym a) ∙ ap (λ (s : Seat). s.set) k ∙ set₀.1)
 
 -- one that applies the rules at time 0 and afterwards only advances the time
-pub first-only : ShutOut FirstOnly
-first-only f kind keeps =
+pub first_only : ShutOut FirstOnly
+first_only f kind keeps =
     let a = (at₁ f keeps send_fault (omega arith)).ring in
     let z = set₁.2 in
     let k = kind bench₁.ring send_fault.send send_fault.receive bench₁.trail (omega arith) 0 in
@@ -127,21 +127,21 @@ invents f kind keeps =
 
 -- ---- each kind has the program written out for it
 
-refuser-is : RefusesAll refuser
-refuser-is r send receive t = (10, 0, refl)
+refuser_is : RefusesAll refuser
+refuser_is r send receive t = (10, 0, refl)
 
-constantly-is : Constant constantly
-constantly-is = ((constantly zero_ring false 0 []).stepped, λ r send receive t. refl)
+constantly_is : Constant constantly
+constantly_is = ((constantly zero_ring false 0 []).stepped, λ r send receive t. refl)
 
-sleeper-is : StandsStill sleeper
-sleeper-is r send receive t p = refl
+sleeper_is : StandsStill sleeper
+sleeper_is r send receive t p = refl
 
 first_timer_is : FirstOnly first_timer
 first_timer_is r send receive t l p = rw (ne_eqb r.time 0 (omega arith))
 
-inventor-is : Invents inventor
+inventor_is : Invents inventor
 unfolding bench₀ ring_of step_told is_ring every_seat_stands fresh_ring zero_ring turn_of
-inventor-is = record {
+inventor_is = record {
   n = 4;
   bytes = 15;
   low = omega arith;
@@ -163,21 +163,21 @@ answer_of done = Taken
 answer_of (refused number place) =
     Refused (cond (eqb number 10) NotARing (cond (eqb number 6) WrongMark (cond (eqb number 9) AtTheEnd NoRoom))) place
 
-answer-told : (r : Ring) (send : Bool) (receive bytes : ℕ) (a : Told) → Answered r send receive bytes a → step_tells (answer_of a) ≡ a
+answer_told : (r : Ring) (send : Bool) (receive bytes : ℕ) (a : Told) → Answered r send receive bytes a → step_tells (answer_of a) ≡ a
 unfolding answer_of
-answer-told r send receive bytes a (not_a_ring h) = refl
-answer-told r send receive bytes a (wrong-mark v w) = refl
-answer-told r send receive bytes a (at_the_end v w e) = refl
-answer-told r send receive bytes a (no_room v w l k) = refl
-answer-told r send receive bytes a (row.taken v w l k) = refl
+answer_told r send receive bytes a (not_a_ring h) = refl
+answer_told r send receive bytes a (wrong_mark v w) = refl
+answer_told r send receive bytes a (at_the_end v w e) = refl
+answer_told r send receive bytes a (no_room v w l k) = refl
+answer_told r send receive bytes a (row.taken v w l k) = refl
 
 keeper : Program
 keeper r send receive t = made (answer_of (step_told r send receive (length t))) (ring_of r send receive t) (trail_of r send receive t)
 
-keeper-keeps : Keeps keeper
+keeper_keeps : Keeps keeper
 unfolding keeper
-keeper-keeps n bytes low high small b w m mask = record {
-  answer = answer-told b.ring m.send m.receive (length b.trail) _ (answers b.ring m.send m.receive (length b.trail));
+keeper_keeps n bytes low high small b w m mask = record {
+  answer = answer_told b.ring m.send m.receive (length b.trail) _ (answers b.ring m.send m.receive (length b.trail));
   ring = refl;
   trail = refl;
 }

@@ -13,7 +13,7 @@ use Rattle.trail.specs.declared.Record.{Record}
 use Rattle.trail.proofs.RecordLaws as trails
 use Rattle.ring.specs.Step.{count_in, records_at, trail_after}
 use Rattle.ring.specs.declared.Ring.{Ring}
-use Rattle.ring.proofs.Records.{length-all}
+use Rattle.ring.proofs.Records.{length_all}
 
 -- all of them, by holder
 unfoldable pub records_in : Ring → Slot → List Record
@@ -22,7 +22,7 @@ records_in r c = joined r.n (records_at r c)
 module _ (r : Ring) (c : Slot) where
   pub records_count : length (records_in r c) ≡ count_in r c
   unfolding records_in
-  records_count = length-all r c r.n
+  records_count = length_all r c r.n
 
   module _ (t : List ℕ) (fits : width * (r.records + count_in r c) ≤ length t) where
     fit : width * (r.records + length (records_in r c)) ≤ length t
@@ -36,8 +36,8 @@ module _ (r : Ring) (c : Slot) where
     unfolding records_in
     record_within i l = let e = records_count in trails.read_back_lem t r.records (records_in r c) fit i (omega arith)
 
-    pub byte-outside : (j : ℕ) → (j < width * r.records) ⊎ (width * (r.records + count_in r c) ≤ j) → get_or (trail_after r c t) j 0 ≡ get_or t j 0
+    pub byte_outside : (j : ℕ) → (j < width * r.records) ⊎ (width * (r.records + count_in r c) ≤ j) → get_or (trail_after r c t) j 0 ≡ get_or t j 0
     unfolding records_in
-    byte-outside j h =
+    byte_outside j h =
         let e = records_count in
-        trails.byte-outside t r.records (records_in r c) fit j (⊎_elim (λ l. inl l) (λ l. inr (omega arith)) h)
+        trails.byte_outside t r.records (records_in r c) fit j (⊎_elim (λ l. inl l) (λ l. inr (omega arith)) h)

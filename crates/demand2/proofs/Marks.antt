@@ -16,8 +16,8 @@ use Rattle.turn.proofs.TurnLaws.{turn_out, turn_owner, turn_other, turn_still, t
 use Rattle.demand2.specs.Marks.{speaks, unmarked, IdleSend, IdleReceive, OwnReceive}
 
 -- a seat that expects the owner hears nothing where the owner is silent, marked or not
-silent-same : (c : Slot) (p q : ℕ) (s : Seat) → speaks c.spoken ≡ false → other_turn (unmarked c q) p s ≡ other_turn c p s
-silent-same c p q s e = rw (nothing c.spoken e)
+silent_same : (c : Slot) (p q : ℕ) (s : Seat) → speaks c.spoken ≡ false → other_turn (unmarked c q) p s ≡ other_turn c p s
+silent_same c p q s e = rw (nothing c.spoken e)
   where
     nothing : (x : Spoken) → speaks x ≡ false → x ≡ Nothing
     nothing Nothing e = refl
@@ -28,17 +28,17 @@ holds_not true true c x y e = e
 holds_not true false c x y e = absurd (true≢false (sym y))
 holds_not false b c x y e = absurd (true≢false (sym x))
 
-pub idle-receive : IdleReceive
-idle-receive c p s e =
+pub idle_receive : IdleReceive
+idle_receive c p s e =
     let d = unmarked c p in
     turn_elim c p s (λ (t : Turn). turn_of d p s ≡ t)
     (λ h. turn_out d p s h)
     (λ h q. turn_owner d p s h q)
-    (λ h n g. turn_other d p s h n g ∙ silent-same c p p s (holds_not (has_seat s.set p) (has_seat s.set c.owner) (speaks c.spoken) h g e))
+    (λ h n g. turn_other d p s h n g ∙ silent_same c p p s (holds_not (has_seat s.set p) (has_seat s.set c.owner) (speaks c.spoken) h g e))
     (λ h n g. turn_still d p s h n g)
 
-pub own-receive : OwnReceive
-own-receive c p q s away =
+pub own_receive : OwnReceive
+own_receive c p q s away =
     let d = unmarked c q in
     turn_elim c p s (λ (t : Turn). turn_of d p s ≡ t)
     (λ h. turn_out d p s h)
@@ -46,16 +46,16 @@ own-receive c p q s away =
     (λ h n g. turn_other d p s h n g ∙ rw (without_other c.receive q p away))
     (λ h n g. turn_still d p s h n g)
 
-not-out : (a : Bool) → not (not a) ≡ false → a ≡ false
-not-out true e = e
-not-out false e = refl
+not_out : (a : Bool) → not (not a) ≡ false → a ≡ false
+not_out true e = e
+not_out false e = refl
 
-pub idle-send : IdleSend
-idle-send r receive p e =
+pub idle_send : IdleSend
+idle_send r receive p e =
     let c = slot_of r false receive in
     let d = slot_of r true receive in
     let s = seat_of r p in
-    let gone = not-out (has_seat (seat_of r (owner_of r)).set (owner_of r)) e in
+    let gone = not_out (has_seat (seat_of r (owner_of r)).set (owner_of r)) e in
     turn_elim c p s (λ (t : Turn). turn_of d p s ≡ t)
     (λ h. turn_out d p s h)
     (λ h q. absurd (true≢false (sym h ∙ ap (λ (x : ℕ). has_seat (seat_of r x).set x) q ∙ gone)))

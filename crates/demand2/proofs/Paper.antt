@@ -28,12 +28,12 @@ use Rattle.ring.specs.declared.Stepped.{Stepped}
 use Rattle.turn.specs.declared.Seat.{Seat}
 use Rattle.turn.specs.declared.Turn.{Turn}
 use Rattle.steps.specs.Run.{Marks, quiet, missed_by, Bench, told_on, step_on, fresh_bench, Reached, start, taken}
-use Rattle.turn.proofs.GoneLaws.{takes_itself, takes_owner, gone-has}
+use Rattle.turn.proofs.GoneLaws.{takes_itself, takes_owner, gone_has}
 use Rattle.steps.proofs.Seen.{view_table}
 use Rattle.turn.proofs.TurnLaws.{turn_elim, turn_out}
-use Rattle.steps.proofs.Taken.{taken-ring}
-use Rattle.steps.proofs.After.{seat-after, seat_beyond}
-use Rattle.steps.proofs.Reached.{fresh-seat, step_after, reached_stands}
+use Rattle.steps.proofs.Taken.{taken_ring}
+use Rattle.steps.proofs.After.{seat_after, seat_beyond}
+use Rattle.steps.proofs.Reached.{fresh_seat_lem, step_after, reached_stands}
 use Rattle.demand2.specs.Story.{row_of}
 use Rattle.demand2.specs.Paper.{broadcasts, broadcaster, membership, ack, expects, arrived, Knows, case_c, case_d, Does, does, knows_in, Updated, received, updated, history, sent_false}
 
@@ -98,8 +98,8 @@ table_does false bit false d = refl
 -- ---- the three ways of the paper
 
 module _ (r : Ring) (m : Marks) (d : Bool) (p : ℕ) where
-  updated-own : membership r p (broadcaster r) ≡ true → p ≡ broadcaster r → record { membership = membership r p; ack = true } ≡ updated r m d p
-  updated-own h e = rw (h, eq-eqb p (broadcaster r) e)
+  updated_own : membership r p (broadcaster r) ≡ true → p ≡ broadcaster r → record { membership = membership r p; ack = true } ≡ updated r m d p
+  updated_own h e = rw (h, eq-eqb p (broadcaster r) e)
 
   updated-received : membership r p (broadcaster r) ≡ true → (p ≡ broadcaster r → ⊥) → received r p (does (knows_in r m d p)) ≡ updated r m d p
   updated-received h n = rw (h, ne_eqb p (broadcaster r) n)
@@ -108,9 +108,9 @@ module _ (r : Ring) (m : Marks) (d : Bool) (p : ℕ) where
   updated_none h = rw h
 
   -- the broadcast arrives as the engine's seat sees it
-  arrived-is : membership r p (broadcaster r) ≡ true
+  arrived_is : membership r p (broadcaster r) ≡ true
       → (broadcasts r m && not (has_seat m.receive p)) ≡ arrived r m p
-  arrived-is h = rw h
+  arrived_is h = rw h
 
 module _ (r : Ring) (m : Marks) (p : ℕ) where
   -- the row of a seat that expects the owner does what the paper says
@@ -122,14 +122,14 @@ module _ (r : Ring) (m : Marks) (p : ℕ) where
       let b = broadcaster r in
       ap row_does
       (view_table (broadcasts r m) (has_seat m.receive p) (ack r b) (ack r p) (seat_of r p).doubt
-      ∙ ap (λ (x : Bool). table x (ack r b) (ack r p) (seat_of r p).doubt) (arrived-is r m (seat_of r p).doubt p g))
+      ∙ ap (λ (x : Bool). table x (ack r b) (ack r p) (seat_of r p).doubt) (arrived_is r m (seat_of r p).doubt p g))
       ∙ table_does (arrived r m p) (ack r b) (ack r p) (seat_of r p).doubt
 
-  other-paper : membership r p (broadcaster r) ≡ true
+  other_paper : membership r p (broadcaster r) ≡ true
       → Holds (other_turn (slot_of r m.send m.receive) p (seat_of r p)).seat (received r p (row_does (row_of r (slot_of r m.send m.receive) p)))
   unfolding row_does
-  other-paper g = record {
-    membership = λ q. gone-has (seat_of r p).set p (broadcaster r) q (row_of r (slot_of r m.send m.receive) p).removed;
+  other_paper g = record {
+    membership = λ q. gone_has (seat_of r p).set p (broadcaster r) q (row_of r (slot_of r m.send m.receive) p).removed;
     ack = refl;
   }
 
@@ -138,8 +138,8 @@ module _ (r : Ring) (m : Marks) (p : ℕ) where
       let d = (seat_of r p).doubt in
       turn_elim (slot_of r m.send m.receive) p (seat_of r p) (λ t. Holds t.seat (updated r m d p))
       (λ h. absurd (true≢false (sym i ∙ h)))
-      (λ h e. subst (Holds _) (updated-own r m d p (ap (membership r p) (sym e) ∙ h) e) (record { membership = λ q. refl; ack = refl }))
-      (λ h n g. subst (Holds _) (ap (received r p) (row-does g) ∙ updated-received r m d p g n) (other-paper g))
+      (λ h e. subst (Holds _) (updated_own r m d p (ap (membership r p) (sym e) ∙ h) e) (record { membership = λ q. refl; ack = refl }))
+      (λ h n g. subst (Holds _) (ap (received r p) (row-does g) ∙ updated-received r m d p g n) (other_paper g))
       (λ h n g. subst (Holds _) (updated_none r m d p g) (record { membership = λ q. refl; ack = refl }))
 
   -- ---- the doubt bit
@@ -156,46 +156,46 @@ module _ (r : Ring) (m : Marks) (p : ℕ) where
 
 -- ---- the theorems
 
-pub paper-step : PaperStep
-paper-step r m t s t' q e p l i =
+pub paper_step : PaperStep
+paper_step r m t s t' q e p l i =
     let d = sym q.answer ∙ e in
-    let a = q.ring ∙ taken-ring r m.send m.receive t d in
+    let a = q.ring ∙ taken_ring r m.send m.receive t d in
     subst (λ (x : Seat). Holds x (updated r m (seat_of r p).doubt p))
-    (sym (ap (λ (x : Ring). seat_of x p) a ∙ seat-after r (slot_of r m.send m.receive) p l))
+    (sym (ap (λ (x : Ring). seat_of x p) a ∙ seat_after r (slot_of r m.send m.receive) p l))
     (turn_paper r m p i)
 
 pub out_stays : OutStays
 out_stays r m t s t' q e p o =
     let d = sym q.answer ∙ e in
     let c = slot_of r m.send m.receive in
-    let a = q.ring ∙ taken-ring r m.send m.receive t d in
+    let a = q.ring ∙ taken_ring r m.send m.receive t d in
     ap (λ (x : Ring). seat_of x p) a
     ∙ ⊎_elim
-    (λ u. seat-after r c p (ltb-true p r.n u) ∙ ap (λ (x : Turn). x.seat) (turn_out c p (seat_of r p) o))
+    (λ u. seat_after r c p (ltb-true p r.n u) ∙ ap (λ (x : Turn). x.seat) (turn_out c p (seat_of r p) o))
     (λ u. seat_beyond r c p (ltb-false p r.n u))
     (both (ltb p r.n))
 
-pub doubt-says : DoubtSays
+pub doubt_says : DoubtSays
 unfolding history
-doubt-says n trail low high b start p l = ap (λ (x : Seat). x.doubt) (fresh-seat n p l)
-doubt-says n trail low high b (taken {b = b'} w m e) p l =
+doubt_says n trail low high b start p l = ap (λ (x : Seat). x.doubt) (fresh_seat_lem n p l)
+doubt_says n trail low high b (taken {b = b'} w m e) p l =
     let q = (reached_stands n trail low high w).seats in
     ap (λ (x : Bench). (seat_of x.ring p).doubt) (step_after m b' e)
-    ∙ ap (λ (x : Seat). x.doubt) (seat-after b'.ring (slot_of b'.ring m.send m.receive) p (omega arith))
-    ∙ turn_doubt b'.ring m p (sent_false p (history w)) (doubt-says n trail low high b' w p l)
+    ∙ ap (λ (x : Seat). x.doubt) (seat_after b'.ring (slot_of b'.ring m.send m.receive) p (omega arith))
+    ∙ turn_doubt b'.ring m p (sent_false p (history w)) (doubt_says n trail low high b' w p l)
 
-pub paper-run : PaperRun
-paper-run n trail low high b w m e p l i =
+pub paper_run : PaperRun
+paper_run n trail low high b w m e p l i =
     let q = (reached_stands n trail low high w).seats in
     let r = b.ring in
-    let a = ap (λ (x : Bench). seat_of x.ring p) (step_after m b e) ∙ seat-after r (slot_of r m.send m.receive) p (omega arith) in
+    let a = ap (λ (x : Bench). seat_of x.ring p) (step_after m b e) ∙ seat_after r (slot_of r m.send m.receive) p (omega arith) in
     subst (λ (x : Seat). Holds x (updated r m (sent_false p (history w)) p)) (sym a)
     (subst (λ (x : Bool). Holds (turn_of (slot_of r m.send m.receive) p (seat_of r p)).seat (updated r m x p))
-    (doubt-says n trail low high b w p l) (turn_paper r m p i))
+    (doubt_says n trail low high b w p l) (turn_paper r m p i))
 
-pub paper-causes : PaperCauses
+pub paper_causes : PaperCauses
 unfolding row_does
-paper-causes r m p g = ap (λ (x : Does). x.causes) (row-does r m p g)
+paper_causes r m p g = ap (λ (x : Does). x.causes) (row-does r m p g)
 
 pub ack_retains : AckRetains
 ack_retains k = go k.arrived k.ack_b k.ack_p

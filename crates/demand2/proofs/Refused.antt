@@ -10,9 +10,9 @@ use lib.Dec.{leb, eqb}
 use lib.ListN.{replicate}
 use borrow.Author.Tests.{leb-true, leb-false, eqb-true, eqb-false, eq-eqb, ne_eqb, le-leb, lt-leb, not-true, not-false}
 use Rattle.limits.specs.Refusals.{Told, done, refused}
-use Rattle.lists.proofs.Tests.{both, and-true, and-fails}
+use Rattle.lists.proofs.Tests.{both, and-true, and_fails}
 use Rattle.seats.specs.Sets.{has_seat, full_set}
-use Rattle.seats.proofs.Sets.{below-full, full_is, none-past, past-has}
+use Rattle.seats.proofs.Sets.{below_full, full_is, none_past, past_has}
 use Rattle.ring.specs.Ring.{is_ring, owner_of, zero_ring, fresh_ring, with_counts, every_seat_stands}
 use Rattle.turn.specs.Turn.{turn_of}
 use Rattle.ring.specs.Step.{slot_of, count_in}
@@ -24,9 +24,9 @@ use Rattle.ring.specs.declared.Stepped.{Stepped}
 use Rattle.ring.specs.declared.StepAnswer.TheVariants.{Refused}
 use Rattle.ring.proofs.Refusing as checks
 use Rattle.limits.specs.declared.Refusal.TheVariants.{NoRoom}
-use Rattle.ring.proofs.Checked.{Valid, ring-valid, valid-ring}
-use Rattle.steps.proofs.Taken.{refused-ring, refused-trail}
-use Rattle.demand2.specs.Refused.{WrongMark, Answered, not_a_ring, wrong-mark, at_the_end, no_room, taken}
+use Rattle.ring.proofs.Checked.{Valid, ring_valid, valid_ring}
+use Rattle.steps.proofs.Taken.{refused_ring, refused_trail}
+use Rattle.demand2.specs.Refused.{WrongMark, Answered, not_a_ring, wrong_mark, at_the_end, no_room, taken}
 
 -- ---- what is said
 
@@ -47,18 +47,18 @@ RefusedLeaves = (r : Ring) (send : Bool) (receive : ℕ) (t : List ℕ) (s : Ste
 
 module _ (r : Ring) (send : Bool) (receive bytes : ℕ) where
   ring_false : (Valid r (room_for bytes) → ⊥) → is_ring r (room_for bytes) ≡ false
-  ring_false h = not-eq-not.0 (λ e. h (ring-valid r (room_for bytes) e))
+  ring_false h = not-eq-not.0 (λ e. h (ring_valid r (room_for bytes) e))
 
-  marks-wrong : r.n ≤ 32 → marks_stand r.n (slot_of r send receive) ≡ false → WrongMark r receive
-  marks-wrong h e =
+  marks_wrong : r.n ≤ 32 → marks_stand r.n (slot_of r send receive) ≡ false → WrongMark r receive
+  marks_wrong h e =
       ⊎_elim
       (λ f.
       let l = leb-false receive (full_set r.n) f in
       let g = full_is r.n h in
-      let q = past-has receive r.n (omega arith) in
+      let q = past_has receive r.n (omega arith) in
       (q.0, q.1, inr (omega (arith, q.2))))
       (λ f. (owner_of r, not-false _ f, inl refl))
-      (and-fails _ _ e)
+      (and_fails _ _ e)
 
   marks_right : r.n ≤ 32 → marks_stand r.n (slot_of r send receive) ≡ true → WrongMark r receive → ⊥
   marks_right h e w =
@@ -66,11 +66,11 @@ module _ (r : Ring) (send : Bool) (receive bytes : ℕ) where
       let o = not-true _ m.1 in
       ⊎_elim
       (λ q. false≢true (sym (ap (λ (x : ℕ). has_seat receive x) q ∙ o) ∙ w.1))
-      (λ l. false≢true (sym (none-past receive r.n w.0 (below-full receive r.n h (leb-true _ _ m.0)) l) ∙ w.1))
+      (λ l. false≢true (sym (none_past receive r.n w.0 (below_full receive r.n h (leb-true _ _ m.0)) l) ∙ w.1))
       w.2
 
   marks_true : r.n ≤ 32 → (WrongMark r receive → ⊥) → marks_stand r.n (slot_of r send receive) ≡ true
-  marks_true h n = not-eq-not.0 (λ e. n (marks-wrong h e))
+  marks_true h n = not-eq-not.0 (λ e. n (marks_wrong h e))
 
   marks_false : r.n ≤ 32 → WrongMark r receive → marks_stand r.n (slot_of r send receive) ≡ false
   marks_false h w = not-eq-not.0 (λ e. marks_right h e w)
@@ -79,16 +79,16 @@ module _ (r : Ring) (send : Bool) (receive bytes : ℕ) where
 
   only : (a : Told) → Answered r send receive bytes a → a ≡ step_told r send receive bytes
   only a (not_a_ring h) = sym (checks.no_ring r send receive bytes (ring_false h))
-  only a (wrong-mark v w) = sym (checks.wrong-mark r send receive bytes (valid-ring r (room_for bytes) v) (marks_false v.most w))
+  only a (wrong_mark v w) = sym (checks.wrong_mark r send receive bytes (valid_ring r (room_for bytes) v) (marks_false v.most w))
   only a (at_the_end v w e) =
-      sym (checks.at_the_end r send receive bytes (valid-ring r (room_for bytes) v) (marks_true v.most w) (eq-eqb r.time 4096 e))
+      sym (checks.at_the_end r send receive bytes (valid_ring r (room_for bytes) v) (marks_true v.most w) (eq-eqb r.time 4096 e))
   only a (no_room v w l k) =
       sym
-      (checks.no_room r send receive bytes (valid-ring r (room_for bytes) v) (marks_true v.most w) (ne_eqb r.time 4096 (omega arith))
+      (checks.no_room r send receive bytes (valid_ring r (room_for bytes) v) (marks_true v.most w) (ne_eqb r.time 4096 (omega arith))
       (lt-leb (r.records + count_in r (slot_of r send receive)) (room_for bytes) k))
   only a (taken v w l k) =
       sym
-      (checks.all_checked r send receive bytes (valid-ring r (room_for bytes) v) (marks_true v.most w) (ne_eqb r.time 4096 (omega arith))
+      (checks.all_checked r send receive bytes (valid_ring r (room_for bytes) v) (marks_true v.most w) (ne_eqb r.time 4096 (omega arith))
       (le-leb (r.records + count_in r (slot_of r send receive)) (room_for bytes) (omega arith)))
 
   -- ---- and there is a row for every step
@@ -96,9 +96,9 @@ module _ (r : Ring) (send : Bool) (receive bytes : ℕ) where
   Row : Type 0
   Row = (a : Told) × Answered r send receive bytes a
 
-  by-time : Valid r (room_for bytes) → (WrongMark r receive → ⊥) → Row
+  by_time : Valid r (room_for bytes) → (WrongMark r receive → ⊥) → Row
   unfolding Row
-  by-time v w =
+  by_time v w =
       ⊎_elim
       (λ e. (refused 9 4096, at_the_end v w (eqb-true _ _ e)))
       (λ e.
@@ -111,35 +111,35 @@ module _ (r : Ring) (send : Bool) (receive bytes : ℕ) where
       (both (leb (r.records + count_in r (slot_of r send receive)) (room_for bytes))))
       (both (eqb r.time 4096))
 
-  by-ring : Row
+  by_ring : Row
   unfolding Row
-  by-ring =
+  by_ring =
       ⊎_elim
       (λ e.
-      let v = ring-valid r (room_for bytes) e in
+      let v = ring_valid r (room_for bytes) e in
       ⊎_elim
-      (λ f. by-time v (marks_right v.most f))
-      (λ f. (refused 6 r.time, wrong-mark v (marks-wrong v.most f)))
+      (λ f. by_time v (marks_right v.most f))
+      (λ f. (refused 6 r.time, wrong_mark v (marks_wrong v.most f)))
       (both (marks_stand r.n (slot_of r send receive))))
-      (λ e. (refused 10 0, not_a_ring (λ v. true≢false (sym (valid-ring r (room_for bytes) v) ∙ e))))
+      (λ e. (refused 10 0, not_a_ring (λ v. true≢false (sym (valid_ring r (room_for bytes) v) ∙ e))))
       (both (is_ring r (room_for bytes)))
 
   answer : Answered r send receive bytes (step_told r send receive bytes)
   unfolding Row
-  answer = subst (Answered r send receive bytes) (only by-ring.0 by-ring.1) by-ring.1
+  answer = subst (Answered r send receive bytes) (only by_ring.0 by_ring.1) by_ring.1
 
 -- ---- the theorems
 
 pub answers : Answers
 answers = answer
 
-pub only-answers : OnlyAnswers
-only-answers = only
+pub only_answers : OnlyAnswers
+only_answers = only
 
-pub refused-leaves : RefusedLeaves
-refused-leaves r send receive t s t' p number place e =
+pub refused_leaves : RefusedLeaves
+refused_leaves r send receive t s t' p number place e =
     let f = sym p.answer ∙ e in
-    (p.ring ∙ refused-ring r send receive t f, p.trail ∙ refused-trail r send receive t f)
+    (p.ring ∙ refused_ring r send receive t f, p.trail ∙ refused_trail r send receive t f)
 
 -- ---- each row of the table is given to some step
 

@@ -55,19 +55,19 @@ ordered_row time p b false bit false d = each.ordered_two no_record Before (reco
 Told : ℕ → ℕ → ℕ → Removal → Record → Type 0
 Told time p b k e = (e.time ≡ time) × (e.holder ≡ p) × Gives p b k e.removed e.cause
 
-told-row : (time p b : ℕ) (k : Removal) → Every (Told time p b k) (records_of time p (gone_by p b k))
+told_row : (time p b : ℕ) (k : Removal) → Every (Told time p b k) (records_of time p (gone_by p b k))
 unfolding Told
-told-row time p b Nobody = each.every_nil no_record (Told time p b Nobody)
-told-row time p b (Itself c) = each.every_one no_record (Told time p b (Itself c)) (record_of time p (gone p c)) (refl, refl, itself c)
-told-row time p b (Owner c) = each.every_one no_record (Told time p b (Owner c)) (record_of time p (gone b c)) (refl, refl, owner c)
-told-row time p b (Both c d) =
+told_row time p b Nobody = each.every_nil no_record (Told time p b Nobody)
+told_row time p b (Itself c) = each.every_one no_record (Told time p b (Itself c)) (record_of time p (gone p c)) (refl, refl, itself c)
+told_row time p b (Owner c) = each.every_one no_record (Told time p b (Owner c)) (record_of time p (gone b c)) (refl, refl, owner c)
+told_row time p b (Both c d) =
     each.every_two no_record (Told time p b (Both c d)) (record_of time p (gone p c)) (record_of time p (gone b d)) (refl, refl, itself_too c d) (refl, refl, owner_too c d)
 
 module _ (r : Ring) (c : Slot) where
-  says-told : (p : ℕ) → p < r.n → has_seat (seat_of r p).set p ≡ true → (p ≡ c.owner → ⊥) → has_seat (seat_of r p).set c.owner ≡ true
+  says_told : (p : ℕ) → p < r.n → has_seat (seat_of r p).set p ≡ true → (p ≡ c.owner → ⊥) → has_seat (seat_of r p).set c.owner ≡ true
       → (e : Record) → Told r.time p c.owner (row_of r c p).removed e → Says r c e
   unfolding Told
-  says-told p l h n g e t =
+  says_told p l h n g e t =
       let q = sym t.1 in
       record {
         time = t.0;
@@ -83,7 +83,7 @@ module _ (r : Ring) (c : Slot) where
       turn_elim c p (seat_of r p) (λ t. Every (Says r c) (records_of r.time p (gone_by p c.owner t.removal)))
       (λ h. each.every_nil no_record (Says r c))
       (λ h e. each.every_nil no_record (Says r c))
-      (λ h n g i k. says-told p l h n g _ (told-row r.time p c.owner (row_of r c p).removed i k))
+      (λ h n g i k. says_told p l h n g _ (told_row r.time p c.owner (row_of r c p).removed i k))
       (λ h n g. each.every_nil no_record (Says r c))
 
   ordered_at : (p : ℕ) → Ordered (records_at r c p)
@@ -109,9 +109,9 @@ module _ (r : Ring) (c : Slot) where
       let b = every_held r.time k (gone_at r c k) j h in
       inl (omega arith))
 
-  pub says-step : Every (Says r c) (records_in r c)
+  pub says_step : Every (Says r c) (records_in r c)
   unfolding records_in
-  says-step = each.every_joined no_record (records_at r c) (Says r c) r.n says_at
+  says_step = each.every_joined no_record (records_at r c) (Says r c) r.n says_at
 
   pub ordered_step : Ordered (records_in r c)
   unfolding records_in

@@ -22,18 +22,18 @@ use Rattle.turn.specs.declared.Seat.{Seat}
 use Rattle.turn.specs.declared.Slot.{Slot}
 use Rattle.ring.specs.declared.Stepped.{Stepped}
 use Rattle.ring.specs.declared.StepAnswer.TheVariants.{Taken}
-use Rattle.steps.proofs.Taken.{told-taken, taken-ring, taken-trail}
-use Rattle.trail.proofs.RecordLaws.{room-bytes}
-use Rattle.steps.proofs.After.{seat-after, seat_beyond, length-after}
+use Rattle.steps.proofs.Taken.{told_taken, taken_ring, taken_trail}
+use Rattle.trail.proofs.RecordLaws.{room_bytes}
+use Rattle.steps.proofs.After.{seat_after, seat_beyond, length_after}
 use Rattle.trail.specs.Trail.{record_at}
 use Rattle.trail.specs.declared.Record.{Record}
 use Rattle.demand2.specs.Records.{passing, tells_of}
 use Rattle.demand2.specs.Story.{left, Says, Before, OneStory}
 use Rattle.trail.specs.Trail.{no_record}
-use Rattle.demand2.proofs.Entries.{records_in, records_count, record_within, byte-outside}
-use Rattle.demand2.proofs.Tally.{one, tally, tally-holder, tally-nobody, passing_step}
-use Rattle.demand2.proofs.Gone.{left-same, turn_left}
-use Rattle.demand2.proofs.Standing.{says-step, ordered_step}
+use Rattle.demand2.proofs.Entries.{records_in, records_count, record_within, byte_outside}
+use Rattle.demand2.proofs.Tally.{one, tally, tally_holder, tally_nobody, passing_step}
+use Rattle.demand2.proofs.Gone.{left_same, turn_left}
+use Rattle.demand2.proofs.Standing.{says_step, ordered_step}
 
 -- ---- what is said
 
@@ -48,18 +48,18 @@ module _ (r : Ring) (c : Slot) (p q : ℕ) where
   alone : (e : Record) → (e.holder ≡ p → ⊥) → tells_of p q e ≡ false
   alone e n = rw (ne_eqb e.holder p n)
 
-  step-tally : tally (tells_of p q) (records_in r c) ≡ one (left (seat_of r p).set (seat_of (ring_after r c) p).set q)
-  step-tally =
+  step_tally : tally (tells_of p q) (records_in r c) ≡ one (left (seat_of r p).set (seat_of (ring_after r c) p).set q)
+  step_tally =
       ⊎_elim
       (λ t.
       let l = ltb-true p r.n t in
-      tally-holder r c (tells_of p q) p alone l
+      tally_holder r c (tells_of p q) p alone l
       ∙ turn_left r.time c p q (seat_of r p)
-      ∙ sym (ap (λ (s : Seat). one (left (seat_of r p).set s.set q)) (seat-after r c p l)))
+      ∙ sym (ap (λ (s : Seat). one (left (seat_of r p).set s.set q)) (seat_after r c p l)))
       (λ f.
       let l = ltb-false p r.n f in
-      tally-nobody r c (tells_of p q) p alone l
-      ∙ sym (ap one (left-same (seat_of r p).set q))
+      tally_nobody r c (tells_of p q) p alone l
+      ∙ sym (ap one (left_same (seat_of r p).set q))
       ∙ sym (ap (λ (s : Seat). one (left (seat_of r p).set s.set q)) (seat_beyond r c p l)))
       (both (ltb p r.n))
 
@@ -72,35 +72,35 @@ module _ (r : Ring) (c : Slot) (t : List ℕ) (fits : width * (r.records + count
       let q : r.records + (i - r.records) ≡ i = omega arith in
       sym (record_within r c t fits (i - r.records) (omega arith)) ∙ ap (record_at (trail_after r c t)) q
 
-  pub story-after : OneStory r c t (ring_after r c) (trail_after r c t)
-  story-after =
+  pub story_after : OneStory r c t (ring_after r c) (trail_after r c t)
+  story_after =
       let m = records_count r c in
       record {
         counted = λ p q.
             let k : r.records + count_in r c - r.records ≡ count_in r c = omega arith in
             ap (λ (x : ℕ). passing (tells_of p q) r.records x (trail_after r c t)) k
             ∙ passing_step (tells_of p q) r c t fits
-            ∙ step-tally r c p q;
-        says = λ i l h. subst (Says r c) (at_record i l h) (says-step r c (i - r.records) (omega arith));
+            ∙ step_tally r c p q;
+        says = λ i l h. subst (Says r c) (at_record i l h) (says_step r c (i - r.records) (omega arith));
         order = λ i j l k h.
             let a = at_record i l (omega arith) in
             let b = at_record j (omega arith) h in
             let o = ordered_step r c (i - r.records) (j - r.records) (omega arith) (omega arith) in
             subst (λ (e : Record). Before e (record_at (trail_after r c t) j)) a (subst (λ (e : Record). Before (get_or (records_in r c) (i - r.records) no_record) e) b o);
-        outside = λ j h. byte-outside r c t fits j h;
-        size = length-after r c t fits;
+        outside = λ j h. byte_outside r c t fits j h;
+        size = length_after r c t fits;
       }
 
 -- ---- the theorem
 
-pub one-story : OneStoryEach
-one-story r send receive t s t' p e =
+pub one_story : OneStoryEach
+one_story r send receive t s t' p e =
     let d = sym p.answer ∙ e in
-    let k = told-taken r send receive (length t) d in
+    let k = told_taken r send receive (length t) d in
     let c = slot_of r send receive in
-    let a = sym (p.ring ∙ taken-ring r send receive t d) in
-    let b = sym (p.trail ∙ taken-trail r send receive t d) in
-    subst (λ (x : Ring). OneStory r c t x t') a (subst (λ (x : List ℕ). OneStory r c t (ring_after r c) x) b (story-after r c t (room-bytes _ _ k.room)))
+    let a = sym (p.ring ∙ taken_ring r send receive t d) in
+    let b = sym (p.trail ∙ taken_trail r send receive t d) in
+    subst (λ (x : Ring). OneStory r c t x t') a (subst (λ (x : List ℕ). OneStory r c t (ring_after r c) x) b (story_after r c t (room_bytes _ _ k.room)))
 
 -- ---- one such step: a fresh ring of 4, a send mark for seat 0, room for 3 records; each of the others removes seat 0 by c
 

@@ -25,14 +25,14 @@ use Rattle.ring.specs.declared.Ring.{Ring}
 use Rattle.turn.specs.declared.Slot.{Slot}
 use Rattle.turn.specs.declared.Seat.{Seat}
 use Rattle.steps.specs.Run.{Marks, Bench, told_on, fresh_bench, Reached, start, run_on}
-use Rattle.ring.proofs.Checked.{owner-below}
-use Rattle.steps.proofs.Taken.{told-taken}
-use Rattle.trail.proofs.RecordLaws.{room-bytes}
-use Rattle.steps.proofs.After.{seat-after}
-use Rattle.steps.proofs.Reached.{Stands, fresh_records, fresh-seat, bench_after, reached_stands, reached_elim, run_reached}
+use Rattle.ring.proofs.Checked.{owner_below}
+use Rattle.steps.proofs.Taken.{told_taken}
+use Rattle.trail.proofs.RecordLaws.{room_bytes}
+use Rattle.steps.proofs.After.{seat_after}
+use Rattle.steps.proofs.Reached.{Stands, fresh_records, fresh_seat_lem, bench_after, reached_stands, reached_elim, run_reached}
 use Rattle.demand2.specs.Records.{passing, held_by, records_by}
-use Rattle.demand2.specs.Refused.{NoRoom, Answered, not_a_ring, wrong-mark, at_the_end, no_room, taken}
-use Rattle.demand2.proofs.Tally.{tally-all, tally-holder, passing_split, passing-before, passing_step}
+use Rattle.demand2.specs.Refused.{NoRoom, Answered, not_a_ring, wrong_mark, at_the_end, no_room, taken}
+use Rattle.demand2.proofs.Tally.{tally_all, tally_holder, passing_split, passing_before, passing_step}
 use Rattle.demand2.proofs.Gone.{turn_size}
 use Rattle.demand2.proofs.Refused.{answers}
 
@@ -62,42 +62,42 @@ NeverEight = (n : ℕ) (trail : List ℕ) → seats_least ≤ n → n ≤ seats_
 module _ (r : Ring) (c : Slot) (most : r.n ≤ 32) (owner : c.owner < 32) where
   set_after : (p : ℕ) → p < r.n → size_of (seat_of (ring_after r c) p).set + count_at r c p ≡ size_of (seat_of r p).set
   set_after p l =
-      ap (λ (s : Seat). size_of s.set + count_at r c p) (seat-after r c p l) ∙ turn_size c p (seat_of r p) (omega arith) owner
+      ap (λ (s : Seat). size_of s.set + count_at r c p) (seat_after r c p l) ∙ turn_size c p (seat_of r p) (omega arith) owner
 
-  total-after : sum r.n (λ p. size_of (seat_of (ring_after r c) p).set) + count_in r c ≡ sum r.n (λ p. size_of (seat_of r p).set)
-  total-after =
+  total_after : sum r.n (λ p. size_of (seat_of (ring_after r c) p).set) + count_in r c ≡ sum r.n (λ p. size_of (seat_of r p).set)
+  total_after =
       sum_plus (λ p. size_of (seat_of (ring_after r c) p).set) (count_at r c) r.n
       ∙ sum_same (λ p. size_of (seat_of (ring_after r c) p).set + count_at r c p) (λ p. size_of (seat_of r p).set) r.n set_after
 
   module _ (t : List ℕ) (fits : width * (r.records + count_in r c) ≤ length t) where
-    by-holder : (p : ℕ) → p < r.n
+    by_holder : (p : ℕ) → p < r.n
         → passing (held_by p) 0 (r.records + count_in r c) (trail_after r c t) ≡ passing (held_by p) 0 r.records t + count_at r c p
-    by-holder p l =
+    by_holder p l =
         let a = passing_split (held_by p) r.records (count_in r c) (trail_after r c t) in
-        let b = passing-before (held_by p) r c t fits in
+        let b = passing_before (held_by p) r c t fits in
         let d = passing_step (held_by p) r c t fits in
-        let e = tally-holder r c (held_by p) p (λ x n. ne_eqb x.holder p n) l in
-        let f = tally-all (held_by p) r.time p (λ g. eq-eqb p p refl) (gone_at r c p) in
+        let e = tally_holder r c (held_by p) p (λ x n. ne_eqb x.holder p n) l in
+        let f = tally_all (held_by p) r.time p (λ g. eq-eqb p p refl) (gone_at r c p) in
         omega arith
 
 step_sum : (n bytes : ℕ) (m : Marks) (b : Bench) → Stands n bytes b → told_on m b ≡ done → SumIsN n b → SumIsN n (bench_after m b)
 step_sum n bytes m b s e h =
-    let t = told-taken b.ring m.send m.receive (length b.trail) e in
+    let t = told_taken b.ring m.send m.receive (length b.trail) e in
     let c = slot_of b.ring m.send m.receive in
     let v = t.valid in
-    let low = owner-below b.ring (room_for (length b.trail)) v in
+    let low = owner_below b.ring (room_for (length b.trail)) v in
     let most = v.most in
     let q = s.seats in
-    let fits = room-bytes _ _ t.room in
+    let fits = room_bytes _ _ t.room in
     record {
       each = λ p l.
           let i : p < b.ring.n = omega arith in
           let x = set_after b.ring c most (omega arith) p i in
-          let y = by-holder b.ring c most (omega arith) b.trail fits p i in
+          let y = by_holder b.ring c most (omega arith) b.trail fits p i in
           let z = h.each p l in
           omega arith;
       total =
-          let x = total-after b.ring c most (omega arith) in
+          let x = total_after b.ring c most (omega arith) in
           let y = ap (λ (k : ℕ). sum k (λ p. size_of (seat_of (ring_after b.ring c) p).set)) q in
           let z = ap (λ (k : ℕ). sum k (λ p. size_of (seat_of b.ring p).set)) q in
           let w = h.total in
@@ -106,10 +106,10 @@ step_sum n bytes m b s e h =
 
 -- ---- a run
 
-fresh-sum : (n : ℕ) (trail : List ℕ) → n ≤ 32 → SumIsN n (fresh_bench n trail)
+fresh_sum : (n : ℕ) (trail : List ℕ) → n ≤ 32 → SumIsN n (fresh_bench n trail)
 unfolding passing
-fresh-sum n trail h =
-    let size : (p : ℕ) → p < n → size_of (seat_of (fresh_ring n) p).set ≡ n = λ p l. ap (λ (s : Seat). size_of s.set) (fresh-seat n p l) ∙ full_size n h in
+fresh_sum n trail h =
+    let size : (p : ℕ) → p < n → size_of (seat_of (fresh_ring n) p).set ≡ n = λ p l. ap (λ (s : Seat). size_of s.set) (fresh_seat_lem n p l) ∙ full_size n h in
     let z = fresh_records n in
     record {
       each = λ p l. rw fresh_records (add-zero _ ∙ size p l);
@@ -121,7 +121,7 @@ fresh-sum n trail h =
 
 module _ (n : ℕ) (trail : List ℕ) (low : seats_least ≤ n) (high : n ≤ seats_most) where
   pub reached_sum : {b : Bench} → Reached n trail b → SumIsN n b
-  reached_sum = reached_elim n trail low high (SumIsN n) (fresh-sum n trail high) (step_sum n (length trail))
+  reached_sum = reached_elim n trail low high (SumIsN n) (fresh_sum n trail high) (step_sum n (length trail))
 
   reached_most : {b : Bench} → Reached n trail b → b.ring.records ≤ n * n
   reached_most w = let t = (reached_sum w).total in omega arith
@@ -129,12 +129,12 @@ module _ (n : ℕ) (trail : List ℕ) (low : seats_least ≤ n) (high : n ≤ se
 -- ---- the room
 
 -- an answer 8 is one about the room
-eight-room : (r : Ring) (send : Bool) (receive bytes place : ℕ) (a : Told) → Answered r send receive bytes a → a ≡ refused 8 place → NoRoom r send receive bytes
-eight-room r send receive bytes place a (not_a_ring h) e = let z : ◌≡◌ {A = ℕ} 10 8 = cc in absurd (omega arith)
-eight-room r send receive bytes place a (wrong-mark v w) e = let z : ◌≡◌ {A = ℕ} 6 8 = cc in absurd (omega arith)
-eight-room r send receive bytes place a (at_the_end v w l) e = let z : ◌≡◌ {A = ℕ} 9 8 = cc in absurd (omega arith)
-eight-room r send receive bytes place a (no_room v w l k) e = k
-eight-room r send receive bytes place a (taken v w l k) e = let z : ◌≡◌ {A = ℕ} 0 1 = cc in absurd (omega arith)
+eight_room : (r : Ring) (send : Bool) (receive bytes place : ℕ) (a : Told) → Answered r send receive bytes a → a ≡ refused 8 place → NoRoom r send receive bytes
+eight_room r send receive bytes place a (not_a_ring h) e = let z : ◌≡◌ {A = ℕ} 10 8 = cc in absurd (omega arith)
+eight_room r send receive bytes place a (wrong_mark v w) e = let z : ◌≡◌ {A = ℕ} 6 8 = cc in absurd (omega arith)
+eight_room r send receive bytes place a (at_the_end v w l) e = let z : ◌≡◌ {A = ℕ} 9 8 = cc in absurd (omega arith)
+eight_room r send receive bytes place a (no_room v w l k) e = k
+eight_room r send receive bytes place a (taken v w l k) e = let z : ◌≡◌ {A = ℕ} 0 1 = cc in absurd (omega arith)
 
 -- the records of any step fit where those of n seats' whole sets do
 step_fits : (n bytes : ℕ) (m : Marks) (b : Bench) → Stands n bytes b → SumIsN n b
@@ -142,10 +142,10 @@ step_fits : (n bytes : ℕ) (m : Marks) (b : Bench) → Stands n bytes b → Sum
 step_fits n bytes m b s h =
     let c = slot_of b.ring m.send m.receive in
     let v = s.valid in
-    let low = owner-below b.ring (room_for bytes) v in
+    let low = owner_below b.ring (room_for bytes) v in
     let most = v.most in
     let q = s.seats in
-    let x = total-after b.ring c most (omega arith) in
+    let x = total_after b.ring c most (omega arith) in
     let z = ap (λ (k : ℕ). sum k (λ p. size_of (seat_of b.ring p).set)) q in
     let w = h.total in
     omega arith
@@ -155,16 +155,16 @@ step_fits n bytes m b s h =
 pub sum_always : SumAlways
 sum_always n trail low high ms = reached_sum n trail low high (run_reached ms start)
 
-pub at-most-square : AtMostSquare
-at-most-square n trail low high ms = reached_most n trail low high (run_reached ms start)
+pub at_most_square : AtMostSquare
+at_most_square n trail low high ms = reached_most n trail low high (run_reached ms start)
 
-pub never-eight : NeverEight
-never-eight n trail low high long ms m place e =
+pub never_eight : NeverEight
+never_eight n trail low high long ms m place e =
     let b = run_on ms (fresh_bench n trail) in
     let w : Reached n trail b = run_reached ms start in
     let s = reached_stands n trail low high w in
     let f = step_fits n (length trail) m b s (reached_sum n trail low high w) in
-    let k = eight-room b.ring m.send m.receive (length b.trail) place _ (answers b.ring m.send m.receive (length b.trail)) e in
+    let k = eight_room b.ring m.send m.receive (length b.trail) place _ (answers b.ring m.send m.receive (length b.trail)) e in
     let l = s.kept in
     let sq : n * n ≤ 32 * 32 = mul-le-mul high high in
     omega arith

@@ -7,7 +7,7 @@ use native.Mathlib.Nat.{zero-add}
 use native.Mathlib.Omega.{arith}
 use lib.ListN.{length, get_or}
 use Rattle.lists.specs.Counted.{sum, count_below}
-use Rattle.lists.proofs.Counted.{sum_same, sum_split, sum-zero, sum-only}
+use Rattle.lists.proofs.Counted.{sum_same, sum_split, sum_zero, sum_only}
 use Rattle.lists.proofs.Each as each
 use Rattle.turn.specs.Table.{Gone}
 use Rattle.ring.specs.Step.{gone_at, count_in, trail_after}
@@ -31,32 +31,32 @@ tally = each.tally no_record
 
 -- the entries of one holder: none passes, or all do
 module _ (test : Record → Bool) (time p : ℕ) where
-  tally-more : (g : Gone) (gs : List Gone) → tally test (records_of time p (g ∷ gs)) ≡ 0 + one (test (record_of time p g)) + tally test (records_of time p gs)
-  tally-more g gs = each.tally-append no_record (record_of time p g ∷ []) (records_of time p gs) test
+  tally_more : (g : Gone) (gs : List Gone) → tally test (records_of time p (g ∷ gs)) ≡ 0 + one (test (record_of time p g)) + tally test (records_of time p gs)
+  tally_more g gs = each.tally_append no_record (record_of time p g ∷ []) (records_of time p gs) test
 
-  tally-none : ((g : Gone) → test (record_of time p g) ≡ false) → (gs : List Gone) → tally test (records_of time p gs) ≡ 0
-  tally-none h [] = refl
-  tally-none h (g ∷ more) = tally-more g more ∙ let a = tally-none h more in let b = ap one (h g) in omega arith
+  tally_none : ((g : Gone) → test (record_of time p g) ≡ false) → (gs : List Gone) → tally test (records_of time p gs) ≡ 0
+  tally_none h [] = refl
+  tally_none h (g ∷ more) = tally_more g more ∙ let a = tally_none h more in let b = ap one (h g) in omega arith
 
-  pub tally-all : ((g : Gone) → test (record_of time p g) ≡ true) → (gs : List Gone) → tally test (records_of time p gs) ≡ length gs
-  tally-all h [] = refl
-  tally-all h (g ∷ more) = tally-more g more ∙ let a = tally-all h more in let b = ap one (h g) in omega arith
+  pub tally_all : ((g : Gone) → test (record_of time p g) ≡ true) → (gs : List Gone) → tally test (records_of time p gs) ≡ length gs
+  tally_all h [] = refl
+  tally_all h (g ∷ more) = tally_more g more ∙ let a = tally_all h more in let b = ap one (h g) in omega arith
 
 -- ---- the entries of a step that pass a test of one holder
 
 module _ (r : Ring) (c : Slot) (test : Record → Bool) (p : ℕ) (alone : (e : Record) → (e.holder ≡ p → ⊥) → test e ≡ false) where
-  others-none : (q : ℕ) → (q ≡ p → ⊥) → tally test (records_at r c q) ≡ 0
-  others-none q n = tally-none test r.time q (λ g. alone (record_of r.time q g) n) (gone_at r c q)
+  others_none : (q : ℕ) → (q ≡ p → ⊥) → tally test (records_at r c q) ≡ 0
+  others_none q n = tally_none test r.time q (λ g. alone (record_of r.time q g) n) (gone_at r c q)
 
-  pub tally-holder : p < r.n → tally test (records_in r c) ≡ tally test (records_at r c p)
+  pub tally_holder : p < r.n → tally test (records_in r c) ≡ tally test (records_at r c p)
   unfolding records_in
-  tally-holder l =
-      each.tally-joined no_record (records_at r c) test r.n ∙ sum-only (λ q. tally test (records_at r c q)) r.n p l others-none
+  tally_holder l =
+      each.tally_joined no_record (records_at r c) test r.n ∙ sum_only (λ q. tally test (records_at r c q)) r.n p l others_none
 
-  pub tally-nobody : r.n ≤ p → tally test (records_in r c) ≡ 0
+  pub tally_nobody : r.n ≤ p → tally test (records_in r c) ≡ 0
   unfolding records_in
-  tally-nobody l =
-      each.tally-joined no_record (records_at r c) test r.n ∙ sum-zero (λ q. tally test (records_at r c q)) r.n (λ q m. others-none q (omega arith))
+  tally_nobody l =
+      each.tally_joined no_record (records_at r c) test r.n ∙ sum_zero (λ q. tally test (records_at r c q)) r.n (λ q m. others_none q (omega arith))
 
 -- ---- the records of a trail that pass
 
@@ -70,9 +70,9 @@ module _ (test : Record → Bool) where
       (λ i l. ap (λ (x : ℕ). one (test (record_at t x))) (zero-add (k + i))))
 
   module _ (r : Ring) (c : Slot) (t : List ℕ) (fits : width * (r.records + count_in r c) ≤ length t) where
-    pub passing-before : passing test 0 r.records (trail_after r c t) ≡ passing test 0 r.records t
+    pub passing_before : passing test 0 r.records (trail_after r c t) ≡ passing test 0 r.records t
     unfolding passing
-    passing-before =
+    passing_before =
         sum_same (λ i. one (test (record_at (trail_after r c t) (0 + i)))) (λ i. one (test (record_at t (0 + i)))) r.records
         (λ i l. ap (λ (e : Record). one (test e)) (record_before r c t fits (0 + i) (omega arith)))
 

@@ -21,7 +21,7 @@ NoRoom r send receive bytes = room_for bytes < r.records + count_in r (slot_of r
 -- a step with a trail of so many bytes is answered so. Checked in the order 10, 6, 9, 8
 pub data Answered (r : Ring) (send : Bool) (receive bytes : ℕ) : Told → Type 0 where
   not_a_ring : (Valid r (room_for bytes) → ⊥) → Answered r send receive bytes (refused (number_of reasons.NotARing) 0)
-  wrong-mark : Valid r (room_for bytes) → WrongMark r receive → Answered r send receive bytes (refused (number_of reasons.WrongMark) r.time)
+  wrong_mark : Valid r (room_for bytes) → WrongMark r receive → Answered r send receive bytes (refused (number_of reasons.WrongMark) r.time)
   at_the_end : Valid r (room_for bytes) → (WrongMark r receive → ⊥) → r.time ≡ slots_most → Answered r send receive bytes (refused (number_of reasons.AtTheEnd) slots_most)
   no_room : Valid r (room_for bytes) → (WrongMark r receive → ⊥) → r.time < slots_most → NoRoom r send receive bytes
       → Answered r send receive bytes (refused (number_of reasons.NoRoom) r.time)

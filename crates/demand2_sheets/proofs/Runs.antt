@@ -15,14 +15,14 @@ use Rattle.sheet.specs.Good.{GoodSheet}
 use Rattle.sheet.specs.declared.Sheet.{Sheet}
 use Rattle.demand2.specs.Paper.{membership, updated, history, sent_false}
 use Rattle.demand2.specs.Story.{OneStory, WholeStory}
-use Rattle.demand2.proofs.Paper.{Holds, paper-run}
+use Rattle.demand2.proofs.Paper.{Holds, paper_run}
 use Rattle.demand2.proofs.Story as story
-use Rattle.demand2.proofs.Whole.{whole-story}
-use Rattle.demand2.proofs.Sum.{SumIsN, sum_always, at-most-square}
+use Rattle.demand2.proofs.Whole.{whole_story}
+use Rattle.demand2.proofs.Sum.{SumIsN, sum_always, at_most_square}
 use Rattle.run.specs.Marks.{marks_at}
 use Rattle.run.specs.Outcome.{Result}
 use Rattle.run.specs.Run.{run_sheet}
-use Rattle.run.proofs.Story.{bench_at, run-story}
+use Rattle.run.proofs.Story.{bench_at, run_story}
 
 -- ---- what is said
 
@@ -45,10 +45,10 @@ pub record RunHolds (sheet : Sheet) (trail : List ℕ) (x : Result) : Type 0 whe
 
 -- ---- a step
 
-step-holds : (n : ℕ) (trail : List ℕ) → seats_least ≤ n → n ≤ seats_most → (b : Bench) (w : Reached n trail b) (m : Marks) → told_on m b ≡ limits.done → StepHolds n trail b w m
-step-holds n trail low high b w m e = record {
-  paper = paper-run n trail low high b w m e;
-  story = story.one-story b.ring m.send m.receive b.trail (record { answer = Taken; ring = (step_on m b).ring }) (step_on m b).trail
+step_holds : (n : ℕ) (trail : List ℕ) → seats_least ≤ n → n ≤ seats_most → (b : Bench) (w : Reached n trail b) (m : Marks) → told_on m b ≡ limits.done → StepHolds n trail b w m
+step_holds n trail low high b w m e = record {
+  paper = paper_run n trail low high b w m e;
+  story = story.one_story b.ring m.send m.receive b.trail (record { answer = Taken; ring = (step_on m b).ring }) (step_on m b).trail
       (record { answer = sym e; ring = refl; trail = refl }) refl;
 }
 
@@ -56,18 +56,18 @@ step-holds n trail low high b w m e = record {
 
 pub run_holds : (sheet : Sheet) → GoodSheet sheet → (trail : List ℕ) → RunHolds sheet trail (run_sheet sheet trail)
 run_holds sheet good trail =
-    let s = run-story sheet trail in
+    let s = run_story sheet trail in
     let low = good.seats.0 in
     let high = good.seats.1 in
     let ms = tab s.steps (marks_at sheet) in
     let k = ap (λ (r : Ring). r.records) s.ring in
     record {
       steps = s.steps;
-      taken = s.taken-all;
-      each = λ i l w. step-holds sheet.n trail low high (bench_at sheet trail i) w (marks_at sheet i) (s.taken-all i l);
+      taken = s.taken_all;
+      each = λ i l w. step_holds sheet.n trail low high (bench_at sheet trail i) w (marks_at sheet i) (s.taken_all i l);
       ring = s.ring;
       written = s.written;
-      whole = whole-story sheet.n trail low high ms;
+      whole = whole_story sheet.n trail low high ms;
       total = sum_always sheet.n trail low high ms;
-      square = rw k (at-most-square sheet.n trail low high ms);
+      square = rw k (at_most_square sheet.n trail low high ms);
     }

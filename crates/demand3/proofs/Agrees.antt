@@ -7,7 +7,7 @@ use native.Mathlib.Omega.{arith}
 use lib.Dec.{eqb, ltb}
 use borrow.Author.Tests.{eqb-true, eq-eqb, ne_eqb, ltb-true, ltb-false}
 use Rattle.lists.proofs.Tests.{both, and-true, and_of, same?}
-use Rattle.demand3.proofs.Slots.{OwnSlot, own-slot}
+use Rattle.demand3.proofs.Slots.{OwnSlot, own_slot}
 use Rattle.demand3.proofs.Model.{State, Sound, Faulty, Terms, Agrees}
 use Rattle.demand3.proofs.Seat.{Kind, sound, faulty, kind}
 use Rattle.demand3.proofs.Invariant.{Alone, Latest, gone, alone, active, Pending, Top}
@@ -33,8 +33,8 @@ module _ (s : State) (w : Kept s) (terms : Terms s) where
       let e = and-true due (eqb (suc f) last) (sym ((inv.holds sp).others fx) ∙ ix) in
       (e.0, eqb-true (suc f) last e.1)
 
-  removed-by : {p x f : ℕ} → Sound s p → Faulty s x f → (k : ℕ) → f ≤ k → k < time → k % n ≡ x → set p x ≡ false
-  removed-by {p} {x} {f} sp fx k lo hi e =
+  removed_by : {p x f : ℕ} → Sound s p → Faulty s x f → (k : ℕ) → f ≤ k → k < time → k % n ≡ x → set p x ≡ false
+  removed_by {p} {x} {f} sp fx k lo hi e =
       ⊎_elim (λ i. let h = held sp fx i in absurd (kept_in h.1 (inv.pend h.0))) (λ i. i) (both (set p x))
     where
       kept_in : suc f ≡ last → Pending s last bit → ⊥
@@ -42,7 +42,7 @@ module _ (s : State) (w : Kept s) (terms : Terms s) where
 
   -- an older one has had its slot
   older : {x f : ℕ} → Faulty s x f → suc f < last → ((k : ℕ) → f ≤ k → k < time → k % n ≡ x → ⊥) → ⊥
-  older {x} {f} fx h ahead = go (inv.top (omega arith)) (own-slot n x f fx.seat)
+  older {x} {f} fx h ahead = go (inv.top (omega arith)) (own_slot n x f fx.seat)
     where
       go : Top s last → OwnSlot n x f → ⊥
       go z k =
@@ -52,7 +52,7 @@ module _ (s : State) (w : Kept s) (terms : Terms s) where
 
   kept_till : {p x f : ℕ} → Sound s p → Faulty s x f → ((k : ℕ) → f ≤ k → k < time → k % n ≡ x → ⊥) → set p x ≡ true
   kept_till {p} {x} {f} sp fx ahead =
-      (inv.holds sp).others fx ∙ and_of is-due (eq-eqb (suc f) last (sym latest))
+      (inv.holds sp).others fx ∙ and_of is_due (eq-eqb (suc f) last (sym latest))
     where
       latest : last ≡ suc f
       latest =
@@ -61,8 +61,8 @@ module _ (s : State) (w : Kept s) (terms : Terms s) where
           (λ e. let h = ltb-false (suc f) last e in omega (arith, inv.most fx))
           (both (ltb (suc f) last))
 
-      is-due : due ≡ true
-      is-due = ⊎_elim (λ e. e) (λ e. let z = inv.over e fx latest in absurd (ahead z.k z.low z.high z.owner)) (both due)
+      is_due : due ≡ true
+      is_due = ⊎_elim (λ e. e) (λ e. let z = inv.over e fx latest in absurd (ahead z.k z.low z.high z.owner)) (both due)
 
   -- ---- the faulty seat's own set
 
@@ -94,10 +94,10 @@ module _ (s : State) (w : Kept s) (terms : Terms s) where
   pub agrees : Agrees s
   agrees = record {
     one_set = λ sp sq r hr. same_set sp sq (kind s r hr);
-    one-ack = λ sp sq. (inv.holds sp).says ∙ sym (inv.holds sq).says;
+    one_ack = λ sp sq. (inv.holds sp).says ∙ sym (inv.holds sq).says;
     sound_in = λ sp sq. (inv.holds sp).friends sq;
-    one-faulty = λ sp fx fy ix iy. alike fx fy (omega (arith, (held sp fx ix).1, (held sp fy iy).1));
-    removed-by = removed-by;
+    one_faulty = λ sp fx fy ix iy. alike fx fy (omega (arith, (held sp fx ix).1, (held sp fy iy).1));
+    removed_by = removed_by;
     kept_till = kept_till;
     ended_by = ended_by;
   }

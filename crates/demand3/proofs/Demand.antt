@@ -11,7 +11,7 @@ use Rattle.limits.specs.Limits.{seats_least, seats_most}
 use Rattle.ring.specs.Refusals.{verdict_found, within}
 use Rattle.steps.specs.Run.{Marks, Bench, told_on, step_on, fresh_bench, Reached, start, run_on}
 use Rattle.limits.proofs.Refusals.{told_is}
-use Rattle.steps.proofs.Reached.{reached_stands, step-refused, run-append, run_reached}
+use Rattle.steps.proofs.Reached.{reached_stands, step_refused, run-append, run_reached}
 use Rattle.demand3.specs.Faults.{Apart}
 use Rattle.demand3.specs.Demand.{Agreement, Demand3, HeldBefore}
 use Rattle.demand3.proofs.Agrees.{agrees}
@@ -19,7 +19,7 @@ use Rattle.demand3.proofs.View.{state_of}
 use Rattle.demand3.proofs.Along.{along}
 use Rattle.demand3.proofs.Decided.{decides}
 use Rattle.demand3.proofs.Read.{agreement}
-use Rattle.demand3.proofs.Before.{apart_of, terms_of, within-before}
+use Rattle.demand3.proofs.Before.{apart_of, terms_of, within_before}
 
 step_reached : {n : ℕ} {trail : List ℕ} {b : Bench} → Reached n trail b → (m : Marks) → Reached n trail (step_on m b)
 unfolding run_on
@@ -30,15 +30,15 @@ module _ (n : ℕ) (trail : List ℕ) (low : seats_least ≤ n) (high : n ≤ se
   within_step : {b : Bench} → Reached n trail b → (m : Marks) → verdict_found (step_on m b).ring ≡ within → verdict_found b.ring ≡ within
   within_step {b} run m h =
       ⊎_elim
-      (λ e. within-before n trail low high run m e h)
-      (λ x. ap (λ (c : Bench). verdict_found c.ring) (sym (step-refused m b x.2)) ∙ h)
+      (λ e. within_before n trail low high run m e h)
+      (λ x. ap (λ (c : Bench). verdict_found c.ring) (sym (step_refused m b x.2)) ∙ h)
       (told_is (told_on m b))
 
-  within-since : {b : Bench} → Reached n trail b → (steps : List Marks) → verdict_found (run_on steps b).ring ≡ within
+  within_since : {b : Bench} → Reached n trail b → (steps : List Marks) → verdict_found (run_on steps b).ring ≡ within
       → verdict_found b.ring ≡ within
   unfolding run_on
-  within-since run [] h = h
-  within-since {b = b} run (m ∷ more) h = within_step run m (within-since {b = step_on m b} (step_reached run m) more h)
+  within_since run [] h = h
+  within_since {b = b} run (m ∷ more) h = within_step run m (within_since {b = step_on m b} (step_reached run m) more h)
 
   -- first faults n + 1 slots apart are enough
   pub agreement_of : {b : Bench} → Reached n trail b → Apart (b.ring.n + 1) b.ring b.ring.time → Agreement b.ring
@@ -47,21 +47,21 @@ module _ (n : ℕ) (trail : List ℕ) (low : seats_least ≤ n) (high : n ≤ se
       let t = terms_of b.ring _ v w in
       agreement b.ring _ v (agrees (state_of b.ring) ((along n trail low high run).kept t) t)
 
-  pub agreement-within : {b : Bench} → Reached n trail b → verdict_found b.ring ≡ within → Agreement b.ring
-  agreement-within {b} run h =
+  pub agreement_within : {b : Bench} → Reached n trail b → verdict_found b.ring ≡ within → Agreement b.ring
+  agreement_within {b} run h =
       let v = (reached_stands n trail low high run).valid in
-      agreement_of run (apart_of b.ring _ v ((decides b.ring).within-kept h))
+      agreement_of run (apart_of b.ring _ v ((decides b.ring).within_kept h))
 
-pub held-before : HeldBefore
-held-before n trail steps more w =
+pub held_before : HeldBefore
+held_before n trail steps more w =
     let whole = ap (λ (b : Bench). verdict_found b.ring) (sym (run-append steps more (fresh_bench n trail))) ∙ w.terms in
     record {
       least = w.least;
       most = w.most;
-      terms = within-since n trail w.least w.most (run_reached steps start) more whole;
+      terms = within_since n trail w.least w.most (run_reached steps start) more whole;
     }
 
 pub demand3 : Demand3
 demand3 n trail steps more whole =
-    let w = held-before n trail steps more whole in
-    agreement-within n trail w.least w.most (run_reached steps start) w.terms
+    let w = held_before n trail steps more whole in
+    agreement_within n trail w.least w.most (run_reached steps start) w.terms

@@ -7,7 +7,7 @@ use Rattle.demand3.specs.Demand.{RunWithin}
 use Rattle.demand3.specs.Runs.{five_apart, before_own, steps_of, seats_in, trail_of_run}
 use Rattle.demand3.specs.Example.{Example}
 use Rattle.demand3.proofs.Demand.{demand3}
-use Rattle.demand3.proofs.Runs.{is-n, is-time, is-sound, is-fault, is_in, is_within}
+use Rattle.demand3.proofs.Runs.{is_n, is_time, is_sound, is_fault, is_in, is_within}
 
 within : RunWithin (seats_in five_apart) trail_of_run (steps_of five_apart)
 within = is_within five_apart (omega arith) (omega arith) refl
@@ -15,12 +15,12 @@ within = is_within five_apart (omega arith) (omega arith) refl
 pub example : Example
 example = record {
   within = within;
-  one-sound = is-sound five_apart 0 refl refl;
-  other-sound = is-sound five_apart 2 refl refl;
-  first-fault = is-fault five_apart 3 0 refl refl;
-  second-fault = is-fault five_apart 1 5 refl refl;
-  own-slot = ap (λ (k : ℕ). 5 % k) (is-n five_apart);
-  over = omega (arith, is-n five_apart, is-time five_apart);
+  one_sound = is_sound five_apart 0 refl refl;
+  other_sound = is_sound five_apart 2 refl refl;
+  first_fault = is_fault five_apart 3 0 refl refl;
+  second_fault = is_fault five_apart 1 5 refl refl;
+  own_slot = ap (λ (k : ℕ). 5 % k) (is_n five_apart);
+  over = omega (arith, is_n five_apart, is_time five_apart);
   agreement = demand3 (seats_in five_apart) trail_of_run (steps_of five_apart) [] within;
   earlier = is_within before_own (omega arith) (omega arith) refl;
   still_in = is_in before_own 0 3 refl;

@@ -8,10 +8,10 @@ use lib.Dec.{eqb}
 use borrow.Author.Tests.{eq-eqb}
 use Rattle.lists.proofs.Tests.{both, same?}
 use Rattle.demand3.proofs.Model.{hold, Sound, Faulty}
-use Rattle.demand3.proofs.Seat.{role-blind, Still, still, differ, back_sound}
+use Rattle.demand3.proofs.Seat.{role_blind, Still, still, differ, back_sound}
 use Rattle.demand3.proofs.Invariant.{Holds, Active, Latest, gone, alone, active, Pending, Low, NoneSound, Inv, soon}
-use Rattle.demand3.proofs.Moves.{Move, o, later, slot-seat, back_faulty, keeps-sound, out_step, alone-step, alone-ack, passed-step}
-use Rattle.demand3.proofs.Moves.{carry, pending-step, after-quiet}
+use Rattle.demand3.proofs.Moves.{Move, o, later, slot_seat, back_faulty, keeps_sound, out_step, alone_step, alone_ack, passed_step}
+use Rattle.demand3.proofs.Moves.{carry, pending_step, after_quiet}
 
 module _ (m : Move) where
   open m use {given, last, bit, due, inv}
@@ -21,7 +21,7 @@ module _ (m : Move) where
 
   module _ (g : ℕ) (fo : Faulty now (o m) g) (eb : (due && eqb (suc g) last) ≡ false) where
     rest : (p : ℕ) → Sound now p → Still given p
-    rest p sp = still given p (role-blind given p (λ i. differ fo sp (sym i)) ((inv.holds sp).others fo ∙ eb))
+    rest p sp = still given p (role_blind given p (λ i. differ fo sp (sym i)) ((inv.holds sp).others fo ∙ eb))
 
     quiet : (p : ℕ) → Sound now p → hold given p ≡ false
     quiet p sp = (rest p sp).hold
@@ -39,15 +39,15 @@ module _ (m : Move) where
         }
 
     -- the owner is not the seat that they still hold
-    calm-owner : {x f : ℕ} → Faulty now x f → last ≡ suc f → x ≡ o m → due ≡ false
-    calm-owner {x} {f} y e i =
+    calm_owner : {x f : ℕ} → Faulty now x f → last ≡ suc f → x ≡ o m → due ≡ false
+    calm_owner {x} {f} y e i =
         let same : suc g ≡ last = sym fo.since ∙ ap now.fault (sym i) ∙ y.since ∙ sym e in
         ⊎_elim (λ k. absurd (false≢true (cc (eb, k, eq-eqb (suc g) last same)))) (λ k. k) (both due)
 
     pending : due ≡ true → Pending (later m) last bit
     pending e =
         let w : Pending now last bit = inv.pend e in
-        rw w.heard (pending-step m quiet w (λ i. false≢true (sym (calm-owner w.late w.is i) ∙ e)))
+        rw w.heard (pending_step m quiet w (λ i. false≢true (sym (calm_owner w.late w.is i) ∙ e)))
 
     -- the sound slot that comes is not this one
     low : Low now last ⊎ NoneSound now → Low (later m) last ⊎ NoneSound (later m)
@@ -61,14 +61,14 @@ module _ (m : Move) where
               (λ i. omega (arith, w.low))
               (same? w.k time);
           high = w.high;
-          next = keeps-sound m quiet w.next;
+          next = keeps_sound m quiet w.next;
         })
     low (inr none) = inr (λ p sp. none p (back_sound given sp))
 
     module _ (x f : ℕ) (fx : Faulty now x f) (el : last ≡ suc f) where
       unseen : Active now f bit due x → (x ≡ o m → ⊥) → set x (o m) ≡ false → Latest (later m) f bit due x
       unseen y i e =
-          let s : Still given x = still given x (role-blind given x i e) in
+          let s : Still given x = still given x (role_blind given x i e) in
           carry m quiet y (omega (arith, inv.since)) (record {
             before = λ k. omega (arith, soon (later m) (pending k), (pending k).is);
             same = λ u ne. s.set u;
@@ -83,23 +83,23 @@ module _ (m : Move) where
       other : Active now f bit due x → (x ≡ o m → ⊥) → Latest (later m) f bit due x
       other y i =
           ⊎_elim
-          (λ e. absurd (differ fo (y.kin (o m) (slot-seat m time) e (λ k. i (sym k))).0 refl))
+          (λ e. absurd (differ fo (y.kin (o m) (slot_seat m time) e (λ k. i (sym k))).0 refl))
           (λ e. unseen y i e)
           (both (set x (o m)))
 
       latest : Latest now f bit due x → Latest (later m) f bit due x
       latest (gone e) = gone (out_step m x e)
-      latest (alone only down) = alone (alone-step m x only) (λ e.
+      latest (alone only down) = alone (alone_step m x only) (λ e.
           ⊎_elim
-          (λ i. absurd (false≢true (sym (calm-owner fx el i) ∙ e)))
-          (λ i. alone-ack m x only i ∙ down e)
+          (λ i. absurd (false≢true (sym (calm_owner fx el i) ∙ e)))
+          (λ i. alone_ack m x only i ∙ down e)
           (same? x (o m)))
       latest (active y h) =
-          ⊎_elim (λ i. absurd (y.past (calm-owner fx el i) time (omega arith) h (sym i))) (λ i. other y i) (same? x (o m))
+          ⊎_elim (λ i. absurd (y.past (calm_owner fx el i) time (omega arith) h (sym i))) (λ i. other y i) (same? x (o m))
 
     pub idle : Inv (later m) last bit due
     idle =
-        after-quiet m quiet
+        after_quiet m quiet
         (record { holds = holds; pend = pending; low = λ e. low (inv.low e) })
         latest
-        (λ x f y e h. passed-step m (inv.over h y e))
+        (λ x f y e h. passed_step m (inv.over h y e))

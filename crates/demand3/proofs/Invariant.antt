@@ -10,7 +10,7 @@ use lib.Dec.{eqb, ltb}
 use borrow.Author.Tests.{ltb-true, ltb-false}
 use Rattle.limits.specs.Limits.{seats_least}
 use Rattle.lists.proofs.Tests.{both, same?}
-use Rattle.demand3.proofs.Slots.{OwnSlot, own-slot}
+use Rattle.demand3.proofs.Slots.{OwnSlot, own_slot}
 use Rattle.demand3.proofs.Model.{State, Sound, Faulty}
 
 module _ (s : State) where
@@ -96,7 +96,7 @@ module _ (s : State) where
   soon w =
       ⊎_elim
       (λ e. ltb-true _ _ e)
-      (λ e. past (ltb-false _ _ e) (own-slot n w.x w.f w.late.seat))
+      (λ e. past (ltb-false _ _ e) (own_slot n w.x w.f w.late.seat))
       (both (ltb time (w.f + n)))
     where
       past : w.f + n ≤ time → OwnSlot n w.x w.f → time < w.f + n
@@ -111,7 +111,7 @@ module _ (s : State) where
       other le q hq e ne g = (act.kin q hq e ne).1 g.at g.low (omega arith) g.owner
 
       only : f + n ≤ time → Alone x
-      only le q hq e = ⊎_elim (λ y. y) (λ y. absurd (other le q hq e y (own-slot n q f hq))) (same? q x)
+      only le q hq e = ⊎_elim (λ y. y) (λ y. absurd (other le q hq e y (own_slot n q f hq))) (same? q x)
 
       past : f + n ≤ time → Latest f bit due x
       past le = alone (only le) (λ y. absurd (omega (arith, pending y)))

@@ -11,7 +11,7 @@ use Rattle.lists.proofs.Found.{found}
 use Rattle.demand3.proofs.Model.{State, Marked, owner, step, Fresh, Sound, Faulty, Terms}
 use Rattle.demand3.proofs.Seat.{Kind, sound, faulty, kind}
 use Rattle.demand3.proofs.Invariant.{Inv}
-use Rattle.demand3.proofs.Moves.{Move, slot-seat}
+use Rattle.demand3.proofs.Moves.{Move, slot_seat}
 use Rattle.demand3.proofs.Sent.{sent}
 use Rattle.demand3.proofs.Missed.{missed}
 use Rattle.demand3.proofs.Spoken.{spoken}
@@ -79,7 +79,7 @@ module _ (t : Marked) where
 -- ---- the five kinds of step
 
 pub step_kept : (t : Marked) → Kept t.now → Terms (step t) → Kept (step t)
-step_kept t w terms = by-owner (kind t.now (owner t) (slot-seat m t.now.time))
+step_kept t w terms = by_owner (kind t.now (owner t) (slot_seat m t.now.time))
   where
     m : Move
     m = record { given = t; last = w.last; bit = w.bit; due = w.due; inv = w.inv; terms = terms }
@@ -97,9 +97,9 @@ step_kept t w terms = by-owner (kind t.now (owner t) (slot-seat m t.now.time))
     rests : (g : ℕ) → Faulty t.now (owner t) g → (w.due && eqb (suc g) w.last) ≡ false → Kept (step t)
     rests g fo e = record { last = w.last; bit = w.bit; due = w.due; inv = idle m g fo e }
 
-    by-owner : Kind t.now (owner t) → Kept (step t)
-    by-owner (sound so) = ⊎_elim (λ e. silent so e) (λ e. spoke so e (misses t)) (both t.send)
-    by-owner (faulty g fo) =
+    by_owner : Kind t.now (owner t) → Kept (step t)
+    by_owner (sound so) = ⊎_elim (λ e. silent so e) (λ e. spoke so e (misses t)) (both t.send)
+    by_owner (faulty g fo) =
         ⊎_elim
         (λ e. let k = and-true w.due (eqb (suc g) w.last) e in drops g fo (sym (eqb-true _ _ k.1)) k.0)
         (λ e. rests g fo e)

@@ -12,11 +12,11 @@ use Rattle.seats.specs.Sets.{has_seat}
 use Rattle.ring.specs.Ring.{no_seat}
 use Rattle.demand3.specs.Runs.{Run, before_own, after_own, before_out, after_out, stated}
 use Rattle.demand3.specs.Late.{RemovedInOwnSlot, LateAtMost, After, Latest}
-use Rattle.demand3.proofs.Slots.{own-slot, once}
-use Rattle.demand3.proofs.Runs.{is-time, is-sound, is-fault, is_in, is_within}
+use Rattle.demand3.proofs.Slots.{own_slot, once}
+use Rattle.demand3.proofs.Runs.{is_time, is_sound, is_fault, is_in, is_within}
 
-pub removed_in_own-slot : RemovedInOwnSlot
-removed_in_own-slot r a p x t k sp fx low high own =
+pub removed_in_own_slot : RemovedInOwnSlot
+removed_in_own_slot r a p x t k sp fx low high own =
     ⊎_elim
     (λ e. let h = leb-true r.time k e in a.stays_till sp fx (ahead h) ∙ sym e)
     (λ e. let h = leb-false r.time k e in a.left_by sp fx k low h own ∙ sym e)
@@ -26,20 +26,20 @@ removed_in_own-slot r a p x t k sp fx low high own =
     ahead : r.time ≤ k → (j : ℕ) → t ≤ j → j < r.time → j % r.n ≡ x → ⊥
     ahead h j lo hi e = once r.n j k (omega arith) (omega arith) (own ∙ sym e)
 
-pub late-at-most : LateAtMost
-late-at-most r a p x t sp fx h =
-    let k = own-slot r.n x t fx.seat in
+pub late_at_most : LateAtMost
+late_at_most r a p x t sp fx h =
+    let k = own_slot r.n x t fx.seat in
     a.left_by sp fx k.at k.low (omega (arith, k.high)) k.owner
 
 -- a moment of a run, by what is stated of it
 moment : (a : Run) (p x t k : ℕ) (has : Bool) → ltb p (stated a).n ≡ true → ltb x (stated a).n ≡ true
     → (get_or (stated a).seats x no_seat).fault ≡ t + 1 → (stated a).time ≡ t + k → has_seat (get_or (stated a).seats p no_seat).set x ≡ has
     → After a p x t k has
-moment a p x t k has hp hx f e h = record { fault = is-fault a x t hx f; time = is-time a ∙ e; holds = is_in a p x hp ∙ h }
+moment a p x t k has hp hx f e h = record { fault = is_fault a x t hx f; time = is_time a ∙ e; holds = is_in a p x hp ∙ h }
 
 pub latest : Latest
 latest = record {
-  sound = is-sound after_own 0 refl refl;
+  sound = is_sound after_own 0 refl refl;
   from_theirs = record {
     longer = refl;
     within = is_within after_own (omega arith) (omega arith) refl;

@@ -9,10 +9,10 @@ use lib.Dec.{eqb}
 use borrow.Author.Tests.{eq-eqb, ne_eqb}
 use Rattle.lists.proofs.Tests.{both, same?}
 use Rattle.demand3.proofs.Model.{acts, role, hold, Sound, Faulty}
-use Rattle.demand3.proofs.Seat.{role-act, act-other, act-owner, differ, back_sound, DropsOwner, deaf_drops}
+use Rattle.demand3.proofs.Seat.{role_act, act_other, act_owner, differ, back_sound, DropsOwner, deaf_drops}
 use Rattle.demand3.proofs.Invariant.{Holds, Active, active, Pending, Inv}
-use Rattle.demand3.proofs.Moves.{Move, o, later, sees, Hears, hears, role-sound}
-use Rattle.demand3.proofs.Moves.{starts, calm, up, unmarked, still-sound, was-faulty, first-kin, after_first}
+use Rattle.demand3.proofs.Moves.{Move, o, later, sees, Hears, hears, role_sound}
+use Rattle.demand3.proofs.Moves.{starts, calm, up, unmarked, still_sound, was_faulty, first_kin, after_first}
 
 module _ (m : Move) where
   open m use {given, inv}
@@ -22,7 +22,7 @@ module _ (m : Move) where
 
   module _ (so : Sound now (o m)) (es : send ≡ false) (c : ℕ) (sc : Sound now c) (nc : c ≡ o m → ⊥) (mc : receive c ≡ true) where
     rc : role given c ≡ acts
-    rc = role-act given c nc (sees m sc sc) (sees m sc so)
+    rc = role_act given c nc (sees m sc sc) (sees m sc so)
 
     yc : hold given c ≡ true
     yc = cc (rc, es, sees m so so, mc)
@@ -44,7 +44,7 @@ module _ (m : Move) where
         heard : (p ≡ o m → ⊥) → receive p ≡ false
         heard i =
             let free : hold given p ≡ false = unmarked m c sc yc was (λ k. differ new sp (sym k)) in
-            ⊎_elim (λ y. absurd (true≢false (cc (free, role-sound m so was i, es, sees m so so, y)))) (λ y. y) (both (receive p))
+            ⊎_elim (λ y. absurd (true≢false (cc (free, role_sound m so was i, es, sees m so so, y)))) (λ y. y) (both (receive p))
 
         h : Hears m p
         h = hears m so es was heard
@@ -56,21 +56,21 @@ module _ (m : Move) where
 
         older : {x f : ℕ} → Faulty (later m) x f → (x ≡ c → ⊥) → set' p x ≡ eqb (suc f) (suc time)
         older {x} {f} y i =
-            let z : Faulty now x f = was-faulty m c sc yc y i in
+            let z : Faulty now x f = was_faulty m c sc yc y i in
             h.same x ∙ (inv.holds was).others z ∙ cc (calm m c sc yc, ne_eqb (suc f) (suc time) (λ k. omega (arith, inv.since, inv.most z)))
 
     w : DropsOwner given c
     w = deaf_drops given c (cc (es, sees m so so, mc)) ((inv.holds sc).says ∙ up m c sc yc)
 
     unseen : (u : ℕ) → set' c u ≡ true → u ≡ o m → ⊥
-    unseen u e i = false≢true (sym (act-owner given c rc w.drop u i) ∙ e)
+    unseen u e i = false≢true (sym (act_owner given c rc w.drop u i) ∙ e)
 
     act : Active (later m) time true true c
     act = record {
-      inside = act-other given c rc w.stays c nc ∙ sees m sc sc;
-      kin = λ u hu e ne. first-kin m c sc yc u hu (sym (act-other given c rc w.stays u (unseen u e)) ∙ e) ne (unseen u e);
+      inside = act_other given c rc w.stays c nc ∙ sees m sc sc;
+      kin = λ u hu e ne. first_kin m c sc yc u hu (sym (act_other given c rc w.stays u (unseen u e)) ∙ e) ne (unseen u e);
       opposite = cc (rc, w.low);
-      full = λ h {u} su ne. act-other given c rc w.stays u ne ∙ sees m sc (back_sound given su);
+      full = λ h {u} su ne. act_other given c rc w.stays u ne ∙ sees m sc (back_sound given su);
       past = λ h. absurd (true≢false h);
     }
 
@@ -81,7 +81,7 @@ module _ (m : Move) where
       is = refl;
       late = new;
       heard = refl;
-      missed = still-sound m c sc yc so (λ i. nc (sym i));
+      missed = still_sound m c sc yc so (λ i. nc (sym i));
       ahead = λ k lo hi i. nc (sym i ∙ ap (λ (j : ℕ). j % n) (omega arith));
     }
 

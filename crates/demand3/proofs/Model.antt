@@ -125,9 +125,9 @@ module _ (s : State) where
 
   pub record Agrees : Type 0 where
     pub one_set : {p q : ℕ} → Sound p → Sound q → (r : ℕ) → r < n → set p r ≡ set q r
-    pub one-ack : {p q : ℕ} → Sound p → Sound q → ack p ≡ ack q
+    pub one_ack : {p q : ℕ} → Sound p → Sound q → ack p ≡ ack q
     pub sound_in : {p q : ℕ} → Sound p → Sound q → set p q ≡ true
-    pub one-faulty : {p x y f g : ℕ} → Sound p → Faulty x f → Faulty y g → set p x ≡ true → set p y ≡ true → x ≡ y
-    pub removed-by : {p x f : ℕ} → Sound p → Faulty x f → (k : ℕ) → f ≤ k → k < time → k % n ≡ x → set p x ≡ false
+    pub one_faulty : {p x y f g : ℕ} → Sound p → Faulty x f → Faulty y g → set p x ≡ true → set p y ≡ true → x ≡ y
+    pub removed_by : {p x f : ℕ} → Sound p → Faulty x f → (k : ℕ) → f ≤ k → k < time → k % n ≡ x → set p x ≡ false
     pub kept_till : {p x f : ℕ} → Sound p → Faulty x f → ((k : ℕ) → f ≤ k → k < time → k % n ≡ x → ⊥) → set p x ≡ true
     pub ended_by : {x f : ℕ} → Faulty x f → f + n ≤ time → (set x x ≡ false) ⊎ ((q : ℕ) → q < n → set x q ≡ eqb q x)

@@ -12,8 +12,8 @@ use lib.Dec.{ltb}
 use borrow.Author.Tests.{ltb-true, ltb-false}
 use Rattle.lists.proofs.Tests.{both, same?}
 use Rattle.demand3.proofs.Model.{State, Marked, owns, acts, owner, role, hold, step, Sound, Faulty, Terms}
-use Rattle.demand3.proofs.Seat.{Kind, sound, faulty, kind, differ, stays-faulty, unheld, held}
-use Rattle.demand3.proofs.Seat.{role-own, role-act, role-out, role-blind, still, own-set, act-nobody, agree-row}
+use Rattle.demand3.proofs.Seat.{Kind, sound, faulty, kind, differ, stays_faulty, unheld, held}
+use Rattle.demand3.proofs.Seat.{role_own, role_act, role_out, role_blind, still, own_set, act_nobody, agree_row}
 use Rattle.demand3.proofs.Invariant.{Holds, Alone, Ahead, Active, Latest, gone, alone, active, Pending, Low, NoneSound, Top, Passed, Inv, soon, settle}
 
 -- a step within the fault terms, from a state of which the invariant holds
@@ -39,8 +39,8 @@ module _ (m : Move) where
 
   open later use {set as set', ack as ack'}
 
-  pub slot-seat : (k : ℕ) → k % n < n
-  slot-seat k = mod-lt k (omega (arith, inv.size))
+  pub slot_seat : (k : ℕ) → k % n < n
+  slot_seat k = mod-lt k (omega (arith, inv.size))
 
   pub sees : {p q : ℕ} → Sound now p → Sound now q → set p q ≡ true
   sees p q = (inv.holds p).friends q
@@ -48,24 +48,24 @@ module _ (m : Move) where
   -- ---- a seat that is out, or alone
 
   blind : (x : ℕ) → Alone now x → (x ≡ o → ⊥) → set x o ≡ false
-  blind x only ne = ⊎_elim (λ e. absurd (ne (sym (only o (slot-seat time) e)))) (λ e. e) (both (set x o))
+  blind x only ne = ⊎_elim (λ e. absurd (ne (sym (only o (slot_seat time) e)))) (λ e. e) (both (set x o))
 
   pub out_step : (x : ℕ) → set x x ≡ false → set' x x ≡ false
-  out_step x e = (still given x (role-out given x e)).set x ∙ e
+  out_step x e = (still given x (role_out given x e)).set x ∙ e
 
-  pub alone-step : (x : ℕ) → Alone now x → Alone later x
-  alone-step x only q h e =
+  pub alone_step : (x : ℕ) → Alone now x → Alone later x
+  alone_step x only q h e =
       ⊎_elim
-      (λ i. only q h (sym (own-set given x i q) ∙ e))
-      (λ i. only q h (sym ((still given x (role-blind given x i (blind x only i))).set q) ∙ e))
+      (λ i. only q h (sym (own_set given x i q) ∙ e))
+      (λ i. only q h (sym ((still given x (role_blind given x i (blind x only i))).set q) ∙ e))
       (same? x o)
 
-  pub alone-ack : (x : ℕ) → Alone now x → (x ≡ o → ⊥) → ack' x ≡ now.ack x
-  alone-ack x only ne = (still given x (role-blind given x ne (blind x only ne))).ack
+  pub alone_ack : (x : ℕ) → Alone now x → (x ≡ o → ⊥) → ack' x ≡ now.ack x
+  alone_ack x only ne = (still given x (role_blind given x ne (blind x only ne))).ack
 
-  ended-step : {x : ℕ} → (set x x ≡ false) ⊎ Alone now x → (set' x x ≡ false) ⊎ Alone later x
-  ended-step {x} (inl e) = inl (out_step x e)
-  ended-step {x} (inr only) = inr (alone-step x only)
+  ended_step : {x : ℕ} → (set x x ≡ false) ⊎ Alone now x → (set' x x ≡ false) ⊎ Alone later x
+  ended_step {x} (inl e) = inl (out_step x e)
+  ended_step {x} (inr only) = inr (alone_step x only)
 
   -- ---- slots
 
@@ -73,11 +73,11 @@ module _ (m : Move) where
   ahead_step old ne k lo hi e =
       ⊎_elim (λ y. ne (sym e ∙ ap (λ (i : ℕ). i % n) y)) (λ y. old k lo (omega arith) e) (same? k time)
 
-  pub passed-step : {f x : ℕ} → Passed now f x → Passed later f x
-  passed-step w = record { k = w.k; low = w.low; high = omega (arith, w.high); owner = w.owner }
+  pub passed_step : {f x : ℕ} → Passed now f x → Passed later f x
+  passed_step w = record { k = w.k; low = w.low; high = omega (arith, w.high); owner = w.owner }
 
-  pub passed-now : {f x : ℕ} → f ≤ time → x ≡ o → Passed later f x
-  passed-now h e = record { k = time; low = h; high = omega arith; owner = sym e }
+  pub passed_now : {f x : ℕ} → f ≤ time → x ≡ o → Passed later f x
+  passed_now h e = record { k = time; low = h; high = omega arith; owner = sym e }
 
   -- ---- a sound seat that hears a sound owner, or is it
 
@@ -86,22 +86,22 @@ module _ (m : Move) where
     pub acks : ack' p ≡ true
     pub sure : bit ≡ true → later.doubt p ≡ false
 
-  pub role-sound : {p : ℕ} → Sound now o → Sound now p → (p ≡ o → ⊥) → role given p ≡ acts
-  role-sound {p} so sp i = role-act given p i (sees sp sp) (sees sp so)
+  pub role_sound : {p : ℕ} → Sound now o → Sound now p → (p ≡ o → ⊥) → role given p ≡ acts
+  role_sound {p} so sp i = role_act given p i (sees sp sp) (sees sp so)
 
   pub hears : {p : ℕ} → Sound now o → given.send ≡ false → Sound now p → ((p ≡ o → ⊥) → given.receive p ≡ false) → Hears p
   hears {p} so es sp heard = ⊎_elim own other (same? p o)
     where
       own : p ≡ o → Hears p
       own i =
-          let r : role given p ≡ owns = role-own given p i (sees sp sp) in
-          record { same = own-set given p i; acks = cc r; sure = λ h. cc (r, (inv.holds sp).says, h) }
+          let r : role given p ≡ owns = role_own given p i (sees sp sp) in
+          record { same = own_set given p i; acks = cc r; sure = λ h. cc (r, (inv.holds sp).says, h) }
 
       other : (p ≡ o → ⊥) → Hears p
       other i =
-          let r : role given p ≡ acts = role-sound so sp i in
-          let w = agree-row given p (cc (es, sees so so, heard i)) ((inv.holds sp).says ∙ sym (inv.holds so).says) in
-          record { same = act-nobody given p r (cc w) (cc w); acks = cc (r, w); sure = λ k. cc r }
+          let r : role given p ≡ acts = role_sound so sp i in
+          let w = agree_row given p (cc (es, sees so so, heard i)) ((inv.holds sp).says ∙ sym (inv.holds so).says) in
+          record { same = act_nobody given p r (cc w) (cc w); acks = cc (r, w); sure = λ k. cc r }
 
   -- ---- first faults
 
@@ -112,14 +112,14 @@ module _ (m : Move) where
       clash : hold given p ≡ true → Top now last → ⊥
       clash y w =
           let since : w.f ≤ time = omega (arith, inv.since, w.is) in
-          omega (arith, w.is, terms.apart (stays-faulty given w.late) (held given y x) (differ w.late x) since)
+          omega (arith, w.is, terms.apart (stays_faulty given w.late) (held given y x) (differ w.late x) since)
 
-  faulty-before : {x f : ℕ} → Faulty later x f → (Sound now x → Sound later x) → Faulty now x f
-  faulty-before {x} {f} y stays = go (kind now x y.seat)
+  faulty_before : {x f : ℕ} → Faulty later x f → (Sound now x → Sound later x) → Faulty now x f
+  faulty_before {x} {f} y stays = go (kind now x y.seat)
     where
       go : Kind now x → Faulty now x f
       go (sound z) = absurd (differ y (stays z) refl)
-      go (faulty g z) = record { seat = y.seat; since = z.since ∙ sym (stays-faulty given z).since ∙ y.since }
+      go (faulty g z) = record { seat = y.seat; since = z.since ∙ sym (stays_faulty given z).since ∙ y.since }
 
   -- what is to be shown of the state after any step
   pub record Shown (last' : ℕ) (bit' due' : Bool) : Type 0 where
@@ -153,15 +153,15 @@ module _ (m : Move) where
     unmarked {q} x ne =
         ⊎_elim (λ y. absurd (omega (arith, terms.apart (held given y x) starts ne (omega arith)))) (λ y. y) (both (hold given q))
 
-    pub still-sound : {q : ℕ} → Sound now q → (q ≡ c → ⊥) → Sound later q
-    still-sound x ne = unheld given (unmarked x ne) x
+    pub still_sound : {q : ℕ} → Sound now q → (q ≡ c → ⊥) → Sound later q
+    still_sound x ne = unheld given (unmarked x ne) x
 
-    pub was-faulty : {x f : ℕ} → Faulty later x f → (x ≡ c → ⊥) → Faulty now x f
-    was-faulty y ne = faulty-before y (λ z. still-sound z ne)
+    pub was_faulty : {x f : ℕ} → Faulty later x f → (x ≡ c → ⊥) → Faulty now x f
+    was_faulty y ne = faulty_before y (λ z. still_sound z ne)
 
     -- those that c has in its set: no faulty seat among them
-    pub first-kin : (u : ℕ) → u < n → set c u ≡ true → (u ≡ c → ⊥) → (u ≡ o → ⊥) → Sound later u × Ahead later time u
-    first-kin u hu e ne nu = (still-sound (go (kind now u hu)) ne, λ k lo hi i. nu (sym i ∙ ap (λ (j : ℕ). j % n) (omega arith)))
+    pub first_kin : (u : ℕ) → u < n → set c u ≡ true → (u ≡ c → ⊥) → (u ≡ o → ⊥) → Sound later u × Ahead later time u
+    first_kin u hu e ne nu = (still_sound (go (kind now u hu)) ne, λ k lo hi i. nu (sym i ∙ ap (λ (j : ℕ). j % n) (omega arith)))
       where
         go : Kind now u → Sound now u
         go (sound y) = y
@@ -179,24 +179,24 @@ module _ (m : Move) where
         latest h = let e : last ≡ suc f = omega (arith, inv.most y) in by e (inv.late y e)
 
     -- c's first fault is now, and any other's was before
-    first-now : {x f : ℕ} → Faulty later x f → x ≡ c → f ≡ time
-    first-now y e = omega (arith, y.since, ap later.fault e, starts.since)
+    first_now : {x f : ℕ} → Faulty later x f → x ≡ c → f ≡ time
+    first_now y e = omega (arith, y.since, ap later.fault e, starts.since)
 
     first_then : {x f : ℕ} → Faulty later x f → (x ≡ c → ⊥) → f < time
-    first_then y ne = omega (arith, inv.most (was-faulty y ne), inv.since)
+    first_then y ne = omega (arith, inv.most (was_faulty y ne), inv.since)
 
     pub after_first : {bit' due' : Bool} → Shown (suc time) bit' due' → Latest later time bit' due' c → (due' ≡ false → c ≡ o)
         → Inv later (suc time) bit' due'
     after_first {bit'} {due'} w late own = record {
       size = inv.size;
       since = omega arith;
-      most = λ {x} y. ⊎_elim (λ e. omega (arith, first-now y e)) (λ ne. omega (arith, first_then y ne)) (same? x c);
+      most = λ {x} y. ⊎_elim (λ e. omega (arith, first_now y e)) (λ ne. omega (arith, first_then y ne)) (same? x c);
       top = λ h. record { f = time; x = c; is = refl; late = starts };
       holds = λ {p} x. w.holds p x;
       old = old;
       late = latest;
       pend = w.pend;
-      over = λ h y e. passed-now (omega arith) (is_c y e ∙ own h);
+      over = λ h y e. passed_now (omega arith) (is_c y e ∙ own h);
       low = w.low;
     }
       where
@@ -205,7 +205,7 @@ module _ (m : Move) where
 
         old : {x f : ℕ} → Faulty later x f → suc f < suc time → (set' x x ≡ false) ⊎ Alone later x
         old {x} y h =
-            ⊎_elim (λ e. absurd (omega (arith, first-now y e))) (λ ne. ended-step (settled (was-faulty y ne))) (same? x c)
+            ⊎_elim (λ e. absurd (omega (arith, first_now y e))) (λ ne. ended_step (settled (was_faulty y ne))) (same? x c)
 
         latest : {x f : ℕ} → Faulty later x f → suc time ≡ suc f → Latest later f bit' due' x
         latest {x} {f} y e = let z : time ≡ f = omega arith in rw (is_c y e, ← z) late
@@ -213,11 +213,11 @@ module _ (m : Move) where
   -- ---- a step with no first fault
 
   module _ (quiet : (p : ℕ) → Sound now p → hold given p ≡ false) where
-    pub keeps-sound : {p : ℕ} → Sound now p → Sound later p
-    keeps-sound {p} x = unheld given (quiet p x) x
+    pub keeps_sound : {p : ℕ} → Sound now p → Sound later p
+    keeps_sound {p} x = unheld given (quiet p x) x
 
     pub back_faulty : {x f : ℕ} → Faulty later x f → Faulty now x f
-    back_faulty y = faulty-before y keeps-sound
+    back_faulty y = faulty_before y keeps_sound
 
     -- what an active seat x goes on by: only the owner may leave its set, and its bit is still not that of
     -- the sound seats
@@ -239,30 +239,30 @@ module _ (m : Move) where
         kin u hu e ne =
             let i : u ≡ o → ⊥ = λ k. ne (k ∙ w.unseen (ap (set' x) (sym k) ∙ e)) in
             let z = y.kin u hu (sym (w.same u i) ∙ e) ne in
-            (keeps-sound z.0, ahead_step z.1 i)
+            (keeps_sound z.0, ahead_step z.1 i)
 
-    pub pending-step : (w : Pending now last bit) → (w.x ≡ o → ⊥) → Pending later last true
-    pending-step w ne = record {
+    pub pending_step : (w : Pending now last bit) → (w.x ≡ o → ⊥) → Pending later last true
+    pending_step w ne = record {
       f = w.f;
       x = w.x;
       is = w.is;
-      late = stays-faulty given w.late;
+      late = stays_faulty given w.late;
       heard = refl;
-      missed = keeps-sound w.missed;
+      missed = keeps_sound w.missed;
       ahead = ahead_step w.ahead ne;
     }
 
-    pub after-quiet : {bit' due' : Bool} → Shown last bit' due'
+    pub after_quiet : {bit' due' : Bool} → Shown last bit' due'
         → ((x f : ℕ) → Faulty now x f → last ≡ suc f → Latest now f bit due x → Latest later f bit' due' x)
         → ((x f : ℕ) → Faulty now x f → last ≡ suc f → due' ≡ false → Passed later f x)
         → Inv later last bit' due'
-    after-quiet w late over = record {
+    after_quiet w late over = record {
       size = inv.size;
       since = omega (arith, inv.since);
       most = λ y. inv.most (back_faulty y);
-      top = λ pos. let k = inv.top pos in record { f = k.f; x = k.x; is = k.is; late = stays-faulty given k.late };
+      top = λ pos. let k = inv.top pos in record { f = k.f; x = k.x; is = k.is; late = stays_faulty given k.late };
       holds = λ {p} x. w.holds p x;
-      old = λ y h. ended-step (inv.old (back_faulty y) h);
+      old = λ y h. ended_step (inv.old (back_faulty y) h);
       late = λ {x} {f} y e. late x f (back_faulty y) e (inv.late (back_faulty y) e);
       pend = w.pend;
       over = λ h {x} {f} y e. over x f (back_faulty y) e h;

@@ -9,7 +9,7 @@ use lib.Dec.{eqb}
 use lib.Pow.{pow-lt}
 use borrow.Author.Tests.{eqb-true, eq-eqb}
 use Rattle.seats.specs.Sets.{has_seat}
-use Rattle.seats.proofs.Sets.{same-sets, has_one}
+use Rattle.seats.proofs.Sets.{same_sets, has_one}
 use Rattle.turn.specs.Turn.{out}
 use Rattle.ring.specs.Ring.{seat_of}
 use Rattle.ring.specs.declared.Ring.{Ring}
@@ -25,14 +25,14 @@ module _ (r : Ring) where
   pub to_sound : {p : ℕ} → SoundSeat r p → Sound (state_of r) p
   to_sound s = record { seat = s.seat; clean = eqb-true _ _ s.never }
 
-  pub from-sound : {p : ℕ} → Sound (state_of r) p → SoundSeat r p
-  from-sound {p} s = record { seat = s.seat; never = eq-eqb (seat_of r p).fault 0 s.clean }
+  pub from_sound : {p : ℕ} → Sound (state_of r) p → SoundSeat r p
+  from_sound {p} s = record { seat = s.seat; never = eq-eqb (seat_of r p).fault 0 s.clean }
 
   pub to_faulty : {x t : ℕ} → FirstFault r x t → Faulty (state_of r) x t
   to_faulty {x} {t} y = record { seat = y.seat; since = y.since ∙ add-one t }
 
-  pub from-faulty : {x t : ℕ} → Faulty (state_of r) x t → FirstFault r x t
-  from-faulty {x} {t} y = record { seat = y.seat; since = y.since ∙ sym (add-one t) }
+  pub from_faulty : {x t : ℕ} → Faulty (state_of r) x t → FirstFault r x t
+  from_faulty {x} {t} y = record { seat = y.seat; since = y.since ∙ sym (add-one t) }
 
   -- ---- agreement, read off the state
 
@@ -43,15 +43,15 @@ module _ (r : Ring) where
     pub agreement : Agreement r
     agreement = record {
       same_set = λ {p} {q} sp sq.
-          same-sets r.n (seat_of r p).set (seat_of r q).set (inside sp.seat) (inside sq.seat)
+          same_sets r.n (seat_of r p).set (seat_of r q).set (inside sp.seat) (inside sq.seat)
           (a.one_set (to_sound sp) (to_sound sq));
-      same-ack = λ sp sq. a.one-ack (to_sound sp) (to_sound sq);
+      same_ack = λ sp sq. a.one_ack (to_sound sp) (to_sound sq);
       sound_in = λ sp sq. a.sound_in (to_sound sp) (to_sound sq);
-      one-faulty = λ sp fx fy. a.one-faulty (to_sound sp) (to_faulty fx) (to_faulty fy);
-      only-seats = λ sp. inside sp.seat;
-      left_by = λ sp fx k low high own. a.removed-by (to_sound sp) (to_faulty fx) k low (omega arith) own;
+      one_faulty = λ sp fx fy. a.one_faulty (to_sound sp) (to_faulty fx) (to_faulty fy);
+      only_seats = λ sp. inside sp.seat;
+      left_by = λ sp fx k low high own. a.removed_by (to_sound sp) (to_faulty fx) k low (omega arith) own;
       stays_till = λ sp fx ahead. a.kept_till (to_sound sp) (to_faulty fx) (λ k low high own. ahead k low (omega arith) own);
-      gone-by = λ {x} fx h. gone x fx.seat (a.ended_by (to_faulty fx) (omega arith));
+      gone_by = λ {x} fx h. gone x fx.seat (a.ended_by (to_faulty fx) (omega arith));
     }
       where
         gone : (x : ℕ) → x < r.n → (has_seat (seat_of r x).set x ≡ false) ⊎ ((q : ℕ) → q < r.n → has_seat (seat_of r x).set q ≡ eqb q x)
@@ -59,5 +59,5 @@ module _ (r : Ring) where
         gone x h (inl e) = inl (ap not e)
         gone x h (inr e) =
             inr
-            (same-sets r.n (seat_of r x).set (2 ^ x) (inside h) (pow-lt h)
+            (same_sets r.n (seat_of r x).set (2 ^ x) (inside h) (pow-lt h)
             (λ q l. e q l ∙ sym (has_one x q)))

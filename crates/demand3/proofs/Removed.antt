@@ -9,10 +9,10 @@ use borrow.Author.Tests.{eq-eqb, ne_eqb}
 use Rattle.lists.proofs.Tests.{same?}
 use Rattle.demand3.proofs.Slots.{once}
 use Rattle.demand3.proofs.Model.{acts, role, speaks, hold, Sound, Faulty}
-use Rattle.demand3.proofs.Seat.{role-own, role-act, own-set, act-other, act-owner, stays-faulty, differ, back_sound}
+use Rattle.demand3.proofs.Seat.{role_own, role_act, own_set, act_other, act_owner, stays_faulty, differ, back_sound}
 use Rattle.demand3.proofs.Seat.{DropsOwner, deaf_drops, false_drops}
 use Rattle.demand3.proofs.Invariant.{Holds, Latest, gone, alone, active, Pending, Low, Inv, soon}
-use Rattle.demand3.proofs.Moves.{Move, o, later, sees, back_faulty, keeps-sound, out_step, alone-step, passed-now, early, carry, after-quiet}
+use Rattle.demand3.proofs.Moves.{Move, o, later, sees, back_faulty, keeps_sound, out_step, alone_step, passed_now, early, carry, after_quiet}
 
 module _ (m : Move) where
   open m use {given, last, bit, due, inv, terms}
@@ -31,11 +31,11 @@ module _ (m : Move) where
     quiet = early m (omega arith) (omega (arith, here))
 
     -- the owner is the only seat with that first fault
-    is-owner : {x f : ℕ} → Faulty now x f → last ≡ suc f → x ≡ o m
-    is-owner {x} y e =
+    is_owner : {x f : ℕ} → Faulty now x f → last ≡ suc f → x ≡ o m
+    is_owner {x} y e =
         ⊎_elim
         (λ i. i)
-        (λ ne. absurd (omega (arith, terms.apart (stays-faulty given y) (stays-faulty given fo) ne (omega arith))))
+        (λ ne. absurd (omega (arith, terms.apart (stays_faulty given y) (stays_faulty given fo) ne (omega arith))))
         (same? x (o m))
 
     -- it is silent, or speaks false
@@ -61,19 +61,19 @@ module _ (m : Move) where
       r : role given p ≡ acts
       r =
           let seen : set p (o m) ≡ true = (inv.holds sp).others fo ∙ cc (ep, eq-eqb (suc g) last (sym el)) in
-          role-act given p (λ i. differ fo sp (sym i)) (sees m sp sp) seen
+          role_act given p (λ i. differ fo sp (sym i)) (sees m sp sp) seen
 
       friends : {q : ℕ} → Sound now q → set' p q ≡ true
-      friends {q} sq = act-other given p r (falls mute).stays q (λ i. differ fo sq (sym i)) ∙ sees m sp sq
+      friends {q} sq = act_other given p r (falls mute).stays q (λ i. differ fo sq (sym i)) ∙ sees m sp sq
 
       others : {x f : ℕ} → Faulty now x f → set' p x ≡ false
       others {x} {f} y =
           ⊎_elim
-          (λ i. act-owner given p r (falls mute).drop x i)
+          (λ i. act_owner given p r (falls mute).drop x i)
           (λ i.
-          act-other given p r (falls mute).stays x i
+          act_other given p r (falls mute).stays x i
           ∙ (inv.holds sp).others y
-          ∙ cc (ep, ne_eqb (suc f) last (λ k. i (is-owner y (sym k)))))
+          ∙ cc (ep, ne_eqb (suc f) last (λ k. i (is_owner y (sym k)))))
           (same? x (o m))
 
     holds : (p : ℕ) → Sound (later m) p → Holds (later m) last false false p
@@ -86,24 +86,24 @@ module _ (m : Move) where
           sure = λ h. cc (r p was);
         }
 
-    owner-latest : (f : ℕ) → last ≡ suc f → Latest now f bit due (o m) → Latest (later m) f false false (o m)
-    owner-latest f e (gone k) = gone (out_step m (o m) k)
-    owner-latest f e (alone only down) = alone (alone-step m (o m) only) (λ k. absurd (false≢true k))
-    owner-latest f e (active y h) = carry m quiet y (omega (arith, inv.since)) (record {
+    owner_latest : (f : ℕ) → last ≡ suc f → Latest now f bit due (o m) → Latest (later m) f false false (o m)
+    owner_latest f e (gone k) = gone (out_step m (o m) k)
+    owner_latest f e (alone only down) = alone (alone_step m (o m) only) (λ k. absurd (false≢true k))
+    owner_latest f e (active y h) = carry m quiet y (omega (arith, inv.since)) (record {
       before = λ k. absurd (false≢true k);
       same = λ u ne. same u;
       inside = same (o m) ∙ y.inside;
       unseen = λ k. refl;
-      opposite = cc (role-own given (o m) refl y.inside);
+      opposite = cc (role_own given (o m) refl y.inside);
       full = λ k {u} su ne. same u ∙ y.full (cc ep) (back_sound given su) ne;
       past = λ k t lo hi i. once n time t lo (omega (arith, inv.since)) i;
     })
       where
         same : (q : ℕ) → set' (o m) q ≡ set (o m) q
-        same = own-set given (o m) refl
+        same = own_set given (o m) refl
 
     latest : (x f : ℕ) → Faulty now x f → last ≡ suc f → Latest now f bit due x → Latest (later m) f false false x
-    latest x f y e k = let i : x ≡ o m = is-owner y e in rw i (owner-latest f e (rw i at k))
+    latest x f y e k = let i : x ≡ o m = is_owner y e in rw i (owner_latest f e (rw i at k))
 
     -- the slot n after the first fault is that of the sound seat that was missed
     low : Low (later m) last
@@ -113,12 +113,12 @@ module _ (m : Move) where
       is = w.is;
       low = omega (arith, soon now w);
       high = omega arith;
-      next = rw add-mod_right (keeps-sound m quiet w.missed);
+      next = rw add-mod_right (keeps_sound m quiet w.missed);
     }
 
     pub removed : Inv (later m) last false false
     removed =
-        after-quiet m quiet
+        after_quiet m quiet
         (record { holds = holds; pend = λ h. absurd (false≢true h); low = λ h. inl low })
         latest
-        (λ x f y e h. passed-now m (omega (arith, inv.since)) (is-owner y e))
+        (λ x f y e h. passed_now m (omega (arith, inv.since)) (is_owner y e))

@@ -38,39 +38,39 @@ as_stated after_out = refl
 -- ---- what that says of a run's last ring
 
 module _ (x : Run) where
-  pub is-n : (last_ring x).n ≡ (stated x).n
+  pub is_n : (last_ring x).n ≡ (stated x).n
   unfolding finish_of
-  is-n = ap (λ (f : Finish). f.n) (as_stated x)
+  is_n = ap (λ (f : Finish). f.n) (as_stated x)
 
-  pub is-time : (last_ring x).time ≡ (stated x).time
+  pub is_time : (last_ring x).time ≡ (stated x).time
   unfolding finish_of
-  is-time = ap (λ (f : Finish). f.time) (as_stated x)
+  is_time = ap (λ (f : Finish). f.time) (as_stated x)
 
   pub is_found : verdict_found (last_ring x) ≡ (stated x).verdict
   unfolding finish_of
   is_found = ap (λ (f : Finish). f.verdict) (as_stated x)
 
-  pub is-seat : (p : ℕ) → ltb p (stated x).n ≡ true → seat_of (last_ring x) p ≡ get_or (stated x).seats p no_seat
+  pub is_seat : (p : ℕ) → ltb p (stated x).n ≡ true → seat_of (last_ring x) p ≡ get_or (stated x).seats p no_seat
   unfolding finish_of
-  is-seat p l =
+  is_seat p l =
       let h = ltb-true p (stated x).n l in
-      sym (get_or-tab (last_ring x).n (seat_of (last_ring x)) no_seat p (omega (arith, is-n)))
+      sym (get_or-tab (last_ring x).n (seat_of (last_ring x)) no_seat p (omega (arith, is_n)))
       ∙ ap (λ (f : Finish). get_or f.seats p no_seat) (as_stated x)
 
-  pub is-sound : (p : ℕ) → ltb p (stated x).n ≡ true → sound (get_or (stated x).seats p no_seat) ≡ true → SoundSeat (last_ring x) p
-  is-sound p l e = record { seat = let h = ltb-true p (stated x).n l in omega (arith, is-n); never = ap sound (is-seat p l) ∙ e }
+  pub is_sound : (p : ℕ) → ltb p (stated x).n ≡ true → sound (get_or (stated x).seats p no_seat) ≡ true → SoundSeat (last_ring x) p
+  is_sound p l e = record { seat = let h = ltb-true p (stated x).n l in omega (arith, is_n); never = ap sound (is_seat p l) ∙ e }
 
-  pub is-fault : (p t : ℕ) → ltb p (stated x).n ≡ true → (get_or (stated x).seats p no_seat).fault ≡ t + 1 → FirstFault (last_ring x) p t
-  is-fault p t l e = record { seat = let h = ltb-true p (stated x).n l in omega (arith, is-n); since = ap (λ (s : Seat). s.fault) (is-seat p l) ∙ e }
+  pub is_fault : (p t : ℕ) → ltb p (stated x).n ≡ true → (get_or (stated x).seats p no_seat).fault ≡ t + 1 → FirstFault (last_ring x) p t
+  is_fault p t l e = record { seat = let h = ltb-true p (stated x).n l in omega (arith, is_n); since = ap (λ (s : Seat). s.fault) (is_seat p l) ∙ e }
 
   pub is_in : (p q : ℕ) → ltb p (stated x).n ≡ true → has_seat (seat_of (last_ring x) p).set q ≡ has_seat (get_or (stated x).seats p no_seat).set q
-  is_in p q l = ap (λ (s : Seat). has_seat s.set q) (is-seat p l)
+  is_in p q l = ap (λ (s : Seat). has_seat s.set q) (is_seat p l)
 
   -- the first faults are n slots apart
-  pub is-apart : 0 < (stated x).n → (stated x).n_apart ≡ true → Apart (last_ring x).n (last_ring x) (last_ring x).time
+  pub is_apart : 0 < (stated x).n → (stated x).n_apart ≡ true → Apart (last_ring x).n (last_ring x) (last_ring x).time
   unfolding finish_of
-  is-apart pos e =
-      let h : (last_ring x).n - 1 + 1 ≡ (last_ring x).n = omega (arith, is-n) in
+  is_apart pos e =
+      let h : (last_ring x).n - 1 + 1 ≡ (last_ring x).n = omega (arith, is_n) in
       rw h at (all_apart (last_ring x) (last_ring x).time ((last_ring x).n - 1) (ap (λ (f : Finish). f.n_apart) (as_stated x) ∙ e))
 
   pub is_within : seats_least ≤ seats_in x → seats_in x ≤ seats_most → (stated x).verdict ≡ within → RunWithin (seats_in x) trail_of_run (steps_of x)

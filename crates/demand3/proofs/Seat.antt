@@ -32,8 +32,8 @@ pub data SomeSound (s : State) : Type 0 where
   some : (p : ℕ) → Sound s p → SomeSound s
   none : ((p : ℕ) → Sound s p → ⊥) → SomeSound s
 
-pub some-sound : (s : State) → SomeSound s
-some-sound s = go (found (λ p. eqb (s.fault p) 0) s.n)
+pub some_sound : (s : State) → SomeSound s
+some_sound s = go (found (λ p. eqb (s.fault p) 0) s.n)
   where
     go : ((p : ℕ) × (p < s.n) × (eqb (s.fault p) 0 ≡ true)) ⊎ ((p : ℕ) → p < s.n → eqb (s.fault p) 0 ≡ false) → SomeSound s
     go (inl (p, h, e)) = some p (record { seat = h; clean = eqb-true _ _ e })
@@ -53,17 +53,17 @@ module _ (t : Marked) (p : ℕ) where
 
   open later use {set as set', ack as ack', doubt as doubt', fault as fault'}
 
-  pub role-own : p ≡ o → set p p ≡ true → role t p ≡ owns
-  role-own e h = cc (eq-eqb p o e)
+  pub role_own : p ≡ o → set p p ≡ true → role t p ≡ owns
+  role_own e h = cc (eq-eqb p o e)
 
-  pub role-act : (p ≡ o → ⊥) → set p p ≡ true → set p o ≡ true → role t p ≡ acts
-  role-act e h k = cc (ne_eqb p o e)
+  pub role_act : (p ≡ o → ⊥) → set p p ≡ true → set p o ≡ true → role t p ≡ acts
+  role_act e h k = cc (ne_eqb p o e)
 
-  pub role-out : set p p ≡ false → role t p ≡ rests
-  role-out h = ⊎_elim (λ e. cc) (λ e. cc) (both (eqb p o))
+  pub role_out : set p p ≡ false → role t p ≡ rests
+  role_out h = ⊎_elim (λ e. cc) (λ e. cc) (both (eqb p o))
 
-  pub role-blind : (p ≡ o → ⊥) → set p o ≡ false → role t p ≡ rests
-  role-blind ne h = let b = ne_eqb p o ne in ⊎_elim (λ e. cc) (λ e. cc) (both (set p p))
+  pub role_blind : (p ≡ o → ⊥) → set p o ≡ false → role t p ≡ rests
+  role_blind ne h = let b = ne_eqb p o ne in ⊎_elim (λ e. cc) (λ e. cc) (both (set p p))
 
   -- a seat that rests changes nothing
   pub record Still : Type 0 where
@@ -76,23 +76,23 @@ module _ (t : Marked) (p : ℕ) where
   still r = record { set = λ q. cc; ack = cc; doubt = cc; hold = cc }
 
   -- the owner's set stays, in or out
-  pub own-set : p ≡ o → (q : ℕ) → set' p q ≡ set p q
-  own-set e q = ⊎_elim (λ h. let r = role-own e h in cc) (λ h. let r = role-out h in cc) (both (set p p))
+  pub own_set : p ≡ o → (q : ℕ) → set' p q ≡ set p q
+  own_set e q = ⊎_elim (λ h. let r = role_own e h in cc) (λ h. let r = role_out h in cc) (both (set p p))
 
   -- a seat that acts: nobody goes, all but the owner stay, the owner goes, the seat goes
-  pub act-nobody : role t p ≡ acts → leaves t p ≡ false → drops t p ≡ false → (q : ℕ) → set' p q ≡ set p q
-  act-nobody r y z q = ⊎_elim (λ h. cc) (λ h. cc) (both (set p q))
+  pub act_nobody : role t p ≡ acts → leaves t p ≡ false → drops t p ≡ false → (q : ℕ) → set' p q ≡ set p q
+  act_nobody r y z q = ⊎_elim (λ h. cc) (λ h. cc) (both (set p q))
 
-  pub act-other : role t p ≡ acts → leaves t p ≡ false → (q : ℕ) → (q ≡ o → ⊥) → set' p q ≡ set p q
-  act-other r y q ne =
+  pub act_other : role t p ≡ acts → leaves t p ≡ false → (q : ℕ) → (q ≡ o → ⊥) → set' p q ≡ set p q
+  act_other r y q ne =
       let b = ne_eqb q o ne in
-      ⊎_elim (λ k. ⊎_elim (λ h. cc) (λ h. cc) (both (set p q))) (λ k. act-nobody r y k q) (both (drops t p))
+      ⊎_elim (λ k. ⊎_elim (λ h. cc) (λ h. cc) (both (set p q))) (λ k. act_nobody r y k q) (both (drops t p))
 
-  pub act-owner : role t p ≡ acts → drops t p ≡ true → (q : ℕ) → q ≡ o → set' p q ≡ false
-  act-owner r z q e = let b = eq-eqb q o e in ⊎_elim (λ h. cc) (λ h. cc) (both (set p q && not (leaves t p && eqb q p)))
+  pub act_owner : role t p ≡ acts → drops t p ≡ true → (q : ℕ) → q ≡ o → set' p q ≡ false
+  act_owner r z q e = let b = eq-eqb q o e in ⊎_elim (λ h. cc) (λ h. cc) (both (set p q && not (leaves t p && eqb q p)))
 
-  pub act-self : role t p ≡ acts → leaves t p ≡ true → set' p p ≡ false
-  act-self r y = let b = eq-eqb p p refl in ⊎_elim (λ h. cc) (λ h. cc) (both (set p p))
+  pub act_self : role t p ≡ acts → leaves t p ≡ true → set' p p ≡ false
+  act_self r y = let b = eq-eqb p p refl in ⊎_elim (λ h. cc) (λ h. cc) (both (set p p))
 
 -- ---- the rows that the argument uses
 
@@ -111,12 +111,12 @@ module _ (t : Marked) (p : ℕ) where
   open now use {ack, doubt}
 
   -- it hears its own bit: nobody goes, and its bit is true
-  pub agree-row : arrived t p ≡ true → ack p ≡ ack (owner t) → row t p ≡ record { removed = Nobody; ack = true }
-  agree-row r e = cc (agreed (ack p) (doubt p))
+  pub agree_row : arrived t p ≡ true → ack p ≡ ack (owner t) → row t p ≡ record { removed = Nobody; ack = true }
+  agree_row r e = cc (agreed (ack p) (doubt p))
 
   -- its bit is false, the owner's true: it goes, whether it hears or not
-  pub low-leaves : ack (owner t) ≡ true → ack p ≡ false → leaves t p ≡ true
-  low-leaves b e = cc (above (arrived t p) (doubt p))
+  pub low_leaves : ack (owner t) ≡ true → ack p ≡ false → leaves t p ≡ true
+  low_leaves b e = cc (above (arrived t p) (doubt p))
 
   -- the owner goes and the seat stays, its bit false
   pub record DropsOwner : Type 0 where
@@ -139,22 +139,22 @@ pub differ : {s : State} {x f p : ℕ} → Faulty s x f → Sound s p → x ≡ 
 differ {s} x p i = omega (arith, ap s.fault i, x.since, p.clean)
 
 -- one that is kept is never changed
-first-kept : (held : Bool) (since fault f : ℕ) → fault ≡ suc f → fault_after held since fault ≡ suc f
-first-kept true since fault f e = rw (ne_eqb fault 0 (omega arith)) e
-first-kept false since fault f e = e
+first_kept : (held : Bool) (since fault f : ℕ) → fault ≡ suc f → fault_after held since fault ≡ suc f
+first_kept true since fault f e = rw (ne_eqb fault 0 (omega arith)) e
+first_kept false since fault f e = e
 
 module _ (t : Marked) {p : ℕ} where
   open t use {now}
 
-  pub stays-faulty : {f : ℕ} → Faulty now p f → Faulty (step t) p f
-  stays-faulty {f} x = record { seat = x.seat; since = first-kept (hold t p) (suc now.time) (now.fault p) f x.since }
+  pub stays_faulty : {f : ℕ} → Faulty now p f → Faulty (step t) p f
+  stays_faulty {f} x = record { seat = x.seat; since = first_kept (hold t p) (suc now.time) (now.fault p) f x.since }
 
   pub back_sound : Sound (step t) p → Sound now p
   back_sound x = go (kind now p x.seat)
     where
       go : Kind now p → Sound now p
       go (sound y) = y
-      go (faulty f y) = absurd (differ (stays-faulty y) x refl)
+      go (faulty f y) = absurd (differ (stays_faulty y) x refl)
 
   pub unheld : hold t p ≡ false → Sound now p → Sound (step t) p
   unheld h x = record { seat = x.seat; clean = cc x.clean }
@@ -164,4 +164,4 @@ module _ (t : Marked) {p : ℕ} where
 
 -- the terms held before the step too
 pub back_terms : (t : Marked) → Terms (step t) → Terms t.now
-back_terms t w = record { apart = λ x y. w.apart (stays-faulty t x) (stays-faulty t y) }
+back_terms t w = record { apart = λ x y. w.apart (stays_faulty t x) (stays_faulty t y) }

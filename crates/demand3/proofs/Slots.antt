@@ -15,8 +15,8 @@ pub record OwnSlot (n u lo : ℕ) : Type 0 where
   pub high : at < lo + n
   pub owner : at % n ≡ u
 
-pub own-slot : (n u lo : ℕ) → u < n → OwnSlot n u lo
-own-slot n u lo h =
+pub own_slot : (n u lo : ℕ) → u < n → OwnSlot n u lo
+own_slot n u lo h =
     ⊎_elim (λ e. near (leb-true (lo % n) u e)) (λ e. far (leb-false (lo % n) u e)) (both (leb (lo % n) u))
   where
     r : lo % n < n

@@ -7,11 +7,11 @@ use native.Mathlib.Omega.{arith}
 use Rattle.lists.proofs.Tests.{both, same?}
 use Rattle.demand3.proofs.Slots.{once}
 use Rattle.demand3.proofs.Model.{acts, role, arrived, leaves, hold, Sound, Faulty}
-use Rattle.demand3.proofs.Seat.{role-own, role-act, role-blind, Still, still, act-other, act-owner, act-self, differ, back_sound}
-use Rattle.demand3.proofs.Seat.{low-leaves, DropsOwner, deaf_drops, false_drops}
+use Rattle.demand3.proofs.Seat.{role_own, role_act, role_blind, Still, still, act_other, act_owner, act_self, differ, back_sound}
+use Rattle.demand3.proofs.Seat.{low_leaves, DropsOwner, deaf_drops, false_drops}
 use Rattle.demand3.proofs.Invariant.{Holds, Active, Latest, gone, alone, active, Pending, Inv}
-use Rattle.demand3.proofs.Moves.{Move, o, later, sees, back_faulty, Hears, hears, role-sound, out_step, alone-step, alone-ack, passed-step}
-use Rattle.demand3.proofs.Moves.{carry, pending-step, after-quiet}
+use Rattle.demand3.proofs.Moves.{Move, o, later, sees, back_faulty, Hears, hears, role_sound, out_step, alone_step, alone_ack, passed_step}
+use Rattle.demand3.proofs.Moves.{carry, pending_step, after_quiet}
 
 module _ (m : Move) where
   open m use {given, last, bit, due, inv}
@@ -23,8 +23,8 @@ module _ (m : Move) where
     quiet : (p : ℕ) → Sound now p → hold given p ≡ false
     quiet p sp =
         ⊎_elim
-        (λ i. let r = role-own given p i (sees m sp sp) in cc (r, es))
-        (λ i. let r = role-sound m so sp i in cc (r, es, sees m so so, heard p sp i))
+        (λ i. let r = role_own given p i (sees m sp sp) in cc (r, es))
+        (λ i. let r = role_sound m so sp i in cc (r, es, sees m so so, heard p sp i))
         (same? p (o m))
 
     holds : (p : ℕ) → Sound (later m) p → Holds (later m) last true due p
@@ -45,7 +45,7 @@ module _ (m : Move) where
         waits k = ⊎_elim (λ e. (inv.pend e).heard) (λ e. absurd (false≢true (cc (k, e)))) (both due)
 
     pending : due ≡ true → Pending (later m) last true
-    pending e = pending-step m quiet (inv.pend e) (differ (inv.pend e).late so)
+    pending e = pending_step m quiet (inv.pend e) (differ (inv.pend e).late so)
 
     -- the latest faulty seat
     module _ (x f : ℕ) (fx : Faulty now x f) (el : last ≡ suc f) where
@@ -73,12 +73,12 @@ module _ (m : Move) where
         awaited k = y.full k so (λ i. once n f time (omega (arith, inv.since)) h i)
 
         leave : set x (o m) ≡ true → leaves given x ≡ true → Next
-        leave e k = gone (act-self given x (role-act given x nx y.inside e) k)
+        leave e k = gone (act_self given x (role_act given x nx y.inside e) k)
 
         drop : set x (o m) ≡ true → due ≡ false → DropsOwner given x → Next
         drop e ep d =
-            let r : role given x ≡ acts = role-act given x nx y.inside e in
-            stay ep (act-other given x r d.stays) (act-owner given x r d.drop (o m) refl) (cc (r, d.low))
+            let r : role given x ≡ acts = role_act given x nx y.inside e in
+            stay ep (act_other given x r d.stays) (act_owner given x r d.drop (o m) refl) (cc (r, d.low))
 
         says : ack (o m) ≡ bit
         says = (inv.holds so).says
@@ -88,9 +88,9 @@ module _ (m : Move) where
         cases false true c d r ei ep ec ed er = absurd (false≢true (sym ei ∙ awaited (cc)))
         cases false false false d r ei ep ec ed er = absurd (false≢true (sym ei ∙ awaited (cc)))
         cases false false true d r ei ep ec ed er =
-            let z : Still given x = still given x (role-blind given x nx ei) in
+            let z : Still given x = still given x (role_blind given x nx ei) in
             stay ep (λ u ne. z.set u) (z.set (o m) ∙ ei) (z.ack ∙ y.opposite ∙ ap not ec)
-        cases true p true d r ei ep ec ed er = leave ei (low-leaves given x (says ∙ ec) (y.opposite ∙ ap not ec))
+        cases true p true d r ei ep ec ed er = leave ei (low_leaves given x (says ∙ ec) (y.opposite ∙ ap not ec))
         cases true true false d r ei ep ec ed er = absurd (false≢true (sym ec ∙ (inv.pend ep).heard))
         cases true false false true true ei ep ec ed er = leave ei (cc (says, y.opposite))
         cases true false false true false ei ep ec ed er = drop ei ep (deaf_drops given x er (y.opposite ∙ ap not ec))
@@ -98,12 +98,12 @@ module _ (m : Move) where
 
       latest : Latest now f bit due x → Next
       latest (gone e) = gone (out_step m x e)
-      latest (alone only down) = alone (alone-step m x only) (λ e. alone-ack m x only nx ∙ down e)
+      latest (alone only down) = alone (alone_step m x only) (λ e. alone_ack m x only nx ∙ down e)
       latest (active y h) = cases y h (set x (o m)) due bit (doubt x) (arrived given x) refl refl refl refl refl
 
     pub spoken : Inv (later m) last true due
     spoken =
-        after-quiet m quiet
+        after_quiet m quiet
         (record { holds = holds; pend = pending; low = λ h. absurd (true≢false h) })
         latest
-        (λ x f y e h. passed-step m (inv.over h y e))
+        (λ x f y e h. passed_step m (inv.over h y e))

@@ -7,8 +7,8 @@ use native.Mathlib.Omega.{arith}
 use lib.Dec.{leb, ltb, eqb}
 use borrow.Author.Tests.{leb-true, leb-false, le-leb, lt-ltb, ltb-true, ltb-false, eqb-false, ne_eqb, not-true}
 use Rattle.lists.specs.Counted.{count_below, all_below}
-use Rattle.lists.proofs.Tests.{both, and-true, and_of, all-at, all_from}
-use Rattle.lists.proofs.Found.{two-counted, counted-two}
+use Rattle.lists.proofs.Tests.{both, and-true, and_of, all_at, all_from}
+use Rattle.lists.proofs.Found.{two_counted, counted_two}
 use Rattle.ring.specs.Ring.{seat_of}
 use Rattle.terms.specs.Terms.{faulty_by, distance, apart_by, sound_least, terms_hold}
 use Rattle.ring.specs.declared.Ring.{Ring}
@@ -36,29 +36,29 @@ module _ (r : Ring) (t : ℕ) where
   abbrev faulty : ℕ → Bool
   faulty = faulty_by r.faults t
 
-  fault-faulty : {x f : ℕ} → FirstFault r x f → f ≤ t → faulty x ≡ true
-  fault-faulty {x} y l =
+  fault_faulty : {x f : ℕ} → FirstFault r x f → f ≤ t → faulty x ≡ true
+  fault_faulty {x} y l =
       let e = y.since in
       and_of (lt-ltb 0 (seat_of r x).fault (omega arith)) (le-leb (seat_of r x).fault (t + 1) (omega arith))
 
-  faulty-fault : (x : ℕ) → x < r.n → faulty x ≡ true → (f : ℕ) × (FirstFault r x f) × (f ≤ t)
-  faulty-fault x h e =
+  faulty_fault : (x : ℕ) → x < r.n → faulty x ≡ true → (f : ℕ) × (FirstFault r x f) × (f ≤ t)
+  faulty_fault x h e =
       let a = and-true _ _ e in
       let low : 0 < (seat_of r x).fault = ltb-true _ _ a.0 in
       let high : (seat_of r x).fault ≤ t + 1 = leb-true _ _ a.1 in
       ((seat_of r x).fault - 1, record { seat = h; since = omega arith }, omega arith)
 
-  sound-after : (p : ℕ) → p < r.n → faulty p ≡ false → SoundAfter r t p
-  sound-after p h e = record {
+  sound_after_lem : (p : ℕ) → p < r.n → faulty p ≡ false → SoundAfter r t p
+  sound_after_lem p h e = record {
     seat = h;
     later = λ {f} y.
-        ⊎_elim (λ l. absurd (false≢true (sym e ∙ fault-faulty y (leb-true f t l)))) (λ l. omega (arith, leb-false f t l)) (both (leb f t));
+        ⊎_elim (λ l. absurd (false≢true (sym e ∙ fault_faulty y (leb-true f t l)))) (λ l. omega (arith, leb-false f t l)) (both (leb f t));
   }
 
-  after-sound : (p : ℕ) → SoundAfter r t p → faulty p ≡ false
-  after-sound p s =
+  after_sound : (p : ℕ) → SoundAfter r t p → faulty p ≡ false
+  after_sound p s =
       ⊎_elim
-      (λ e. let k = faulty-fault p s.seat e in absurd (omega (arith, s.later k.1, k.2)))
+      (λ e. let k = faulty_fault p s.seat e in absurd (omega (arith, s.later k.1, k.2)))
       (λ e. e)
       (both (faulty p))
 
@@ -70,12 +70,12 @@ module _ (r : Ring) (t : ℕ) where
 
     spaced : {x y f g : ℕ} → apart x y ≡ true → FirstFault r x f → FirstFault r y g → (x ≡ y → ⊥) → f ≤ g → g ≤ t → f + (d + 1) ≤ g
     spaced {x} {y} h fx fy ne l m =
-        let e = apart_by_lem (ne_eqb x y ne) (fault-faulty fx (omega arith)) (fault-faulty fy m) h in
+        let e = apart_by_lem (ne_eqb x y ne) (fault_faulty fx (omega arith)) (fault_faulty fy m) h in
         omega (arith, leb-true (d + 1) (distance (seat_of r x).fault (seat_of r y).fault) e, fx.since, fy.since)
 
     far : {x y : ℕ} → x < r.n → y < r.n → Apart (d + 1) r t → apart x y ≡ true
     far {x} {y} hx hy w =
-        apart_if (eqb x y) (faulty x) (faulty y) _ (λ e a b. le-leb (d + 1) _ (wide (eqb-false x y e) (faulty-fault x hx a) (faulty-fault y hy b)))
+        apart_if (eqb x y) (faulty x) (faulty y) _ (λ e a b. le-leb (d + 1) _ (wide (eqb-false x y e) (faulty_fault x hx a) (faulty_fault y hy b)))
       where
         wide : (x ≡ y → ⊥) → (f : ℕ) × (FirstFault r x f) × (f ≤ t) → (g : ℕ) × (FirstFault r y g) × (g ≤ t)
             → d + 1 ≤ distance (seat_of r x).fault (seat_of r y).fault
@@ -90,47 +90,47 @@ module _ (r : Ring) (t : ℕ) where
     pub all_apart : all_below r.n (λ p. all_below r.n (apart p)) ≡ true → Apart (d + 1) r t
     all_apart h = record {
       spaced = λ {x} {y} fx fy.
-          spaced (all-at (apart x) r.n y (all-at (λ p. all_below r.n (apart p)) r.n x h fx.seat) fy.seat) fx fy;
+          spaced (all_at (apart x) r.n y (all_at (λ p. all_below r.n (apart p)) r.n x h fx.seat) fy.seat) fx fy;
     }
 
-    apart-all : Apart (d + 1) r t → all_below r.n (λ p. all_below r.n (apart p)) ≡ true
-    apart-all w = all_from (λ p. all_below r.n (apart p)) r.n (λ x hx. all_from (apart x) r.n (λ y hy. far hx hy w))
+    apart_all : Apart (d + 1) r t → all_below r.n (λ p. all_below r.n (apart p)) ≡ true
+    apart_all w = all_from (λ p. all_below r.n (apart p)) r.n (λ x hx. all_from (apart x) r.n (λ y hy. far hx hy w))
 
   -- ---- two sound seats
 
   abbrev sound : ℕ → Bool
   sound p = not (faulty p)
 
-  counted-sound : sound_least ≤ count_below r.n sound → TwoSound r t
-  counted-sound h =
-      let k = counted-two sound r.n h in
+  counted_sound : sound_least ≤ count_below r.n sound → TwoSound r t
+  counted_sound h =
+      let k = counted_two sound r.n h in
       record {
         one = k.0;
         other = k.1;
         differ = λ e. omega (arith, k.2);
-        one-sound = sound-after k.0 (omega (arith, k.2, k.3)) (not-true _ k.4);
-        other-sound = sound-after k.1 k.3 (not-true _ k.5);
+        one_sound = sound_after_lem k.0 (omega (arith, k.2, k.3)) (not-true _ k.4);
+        other_sound = sound_after_lem k.1 k.3 (not-true _ k.5);
       }
 
-  sound-counted : TwoSound r t → sound_least ≤ count_below r.n sound
-  sound-counted k =
-      let a : sound k.one ≡ true = ap not (after-sound k.one k.one-sound) in
-      let b : sound k.other ≡ true = ap not (after-sound k.other k.other-sound) in
+  sound_counted : TwoSound r t → sound_least ≤ count_below r.n sound
+  sound_counted k =
+      let a : sound k.one ≡ true = ap not (after_sound k.one k.one_sound) in
+      let b : sound k.other ≡ true = ap not (after_sound k.other k.other_sound) in
       ⊎_elim
-      (λ l. two-counted sound r.n k.one k.other (ltb-true _ _ l) k.other-sound.seat a b)
+      (λ l. two_counted sound r.n k.one k.other (ltb-true _ _ l) k.other_sound.seat a b)
       (λ l.
       let h : k.other < k.one = omega (arith, ltb-false k.one k.other l, k.differ) in
-      two-counted sound r.n k.other k.one h k.one-sound.seat b a)
+      two_counted sound r.n k.other k.one h k.one_sound.seat b a)
       (both (ltb k.one k.other))
 
   -- ---- the terms up to the step
 
-  pub hold-terms : terms_hold r.n r.faults t ≡ true → TermsHold r t
+  pub hold_terms : terms_hold r.n r.faults t ≡ true → TermsHold r t
   unfolding terms_hold
-  hold-terms h =
+  hold_terms h =
       let k = and-true (all_below r.n (λ p. all_below r.n (apart r.n p))) (leb sound_least (count_below r.n sound)) h in
-      record { apart = closer (all_apart r.n k.0) (omega arith); sound = counted-sound (leb-true _ _ k.1) }
+      record { apart = closer (all_apart r.n k.0) (omega arith); sound = counted_sound (leb-true _ _ k.1) }
 
-  pub terms-hold : TermsHold r t → terms_hold r.n r.faults t ≡ true
+  pub terms_hold_lem : TermsHold r t → terms_hold r.n r.faults t ≡ true
   unfolding terms_hold
-  terms-hold w = and_of (apart-all r.n (closer w.apart (omega arith))) (le-leb sound_least (count_below r.n sound) (sound-counted w.sound))
+  terms_hold_lem w = and_of (apart_all r.n (closer w.apart (omega arith))) (le-leb sound_least (count_below r.n sound) (sound_counted w.sound))

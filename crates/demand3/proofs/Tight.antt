@@ -17,64 +17,64 @@ use Rattle.demand3.specs.Runs.{four_apart, three_apart, alone, last_ring}
 use Rattle.demand3.specs.Tight.{Tight, ApartIsEnough, AloneStays}
 use Rattle.demand3.proofs.Tested.{closer}
 use Rattle.demand3.proofs.Demand.{agreement_of}
-use Rattle.demand3.proofs.Runs.{is-n, is-time, is-seat, is-sound, is-fault, is_in, is-apart, is_within}
+use Rattle.demand3.proofs.Runs.{is_n, is_time, is_seat, is_sound, is_fault, is_in, is_apart, is_within}
 
 -- a sound seat has no first fault
-never-faulty : (r : Ring) (p t : ℕ) → SoundSeat r p → SoundAfter r t p
-never-faulty r p t s = record { seat = s.seat; later = λ {f} y. absurd (omega (arith, eqb-true (seat_of r p).fault 0 s.never, y.since)) }
+never_faulty : (r : Ring) (p t : ℕ) → SoundSeat r p → SoundAfter r t p
+never_faulty r p t s = record { seat = s.seat; later = λ {f} y. absurd (omega (arith, eqb-true (seat_of r p).fault 0 s.never, y.since)) }
 
 module _ where
   abbrev r : Ring
   r = last_ring four_apart
 
   one : SoundSeat r 1
-  one = is-sound four_apart 1 refl refl
+  one = is_sound four_apart 1 refl refl
 
   two : SoundSeat r 2
-  two = is-sound four_apart 2 refl refl
+  two = is_sound four_apart 2 refl refl
 
   -- the two hold the sets of one seat each: the other
-  apart-sets : Agreement r → ⊥
-  apart-sets a =
+  apart_sets : Agreement r → ⊥
+  apart_sets a =
       let e : ◌≡◌ {A = ℕ} 4 2 =
-      sym (ap (λ (s : Seat). s.set) (is-seat four_apart 1 refl)) ∙ a.same_set one two ∙ ap (λ (s : Seat). s.set) (is-seat four_apart 2 refl) in
+      sym (ap (λ (s : Seat). s.set) (is_seat four_apart 1 refl)) ∙ a.same_set one two ∙ ap (λ (s : Seat). s.set) (is_seat four_apart 2 refl) in
       omega arith
 
 pub tight : Tight
 tight = record {
-  two-left = record { apart = closer (is-apart four_apart (omega arith) refl) (omega arith); broken = apart-sets };
-  two-sound = record {
+  two_left = record { apart = closer (is_apart four_apart (omega arith) refl) (omega arith); broken = apart_sets };
+  two_sound = record {
     one = 1;
     other = 2;
     differ = omega arith;
-    one-sound = never-faulty r 1 _ one;
-    other-sound = never-faulty r 2 _ two;
+    one_sound = never_faulty r 1 _ one;
+    other_sound = never_faulty r 2 _ two;
   };
-  one_left = record { apart = closer (is-apart three_apart (omega arith) refl) (omega arith); broken = out_of_its_own };
-  one-sound = last;
+  one_left = record { apart = closer (is_apart three_apart (omega arith) refl) (omega arith); broken = out_of_its_own };
+  one_sound = last;
   no_other = no_other;
 }
   where
     last : SoundSeat (last_ring three_apart) 1
-    last = is-sound three_apart 1 refl refl
+    last = is_sound three_apart 1 refl refl
 
     -- the sound seat is not in its own set
     out_of_its_own : Agreement (last_ring three_apart) → ⊥
     out_of_its_own a = false≢true (sym (is_in three_apart 1 1 refl) ∙ a.sound_in last last)
 
     no_other : (p : ℕ) → SoundSeat (last_ring three_apart) p → p ≡ 1
-    no_other zero s = absurd (false≢true (sym (ap sound (is-seat three_apart 0 refl)) ∙ s.never))
+    no_other zero s = absurd (false≢true (sym (ap sound (is_seat three_apart 0 refl)) ∙ s.never))
     no_other (suc zero) s = refl
-    no_other (suc (suc zero)) s = absurd (false≢true (sym (ap sound (is-seat three_apart 2 refl)) ∙ s.never))
-    no_other (suc (suc (suc p))) s = absurd (omega (arith, s.seat, is-n three_apart))
+    no_other (suc (suc zero)) s = absurd (false≢true (sym (ap sound (is_seat three_apart 2 refl)) ∙ s.never))
+    no_other (suc (suc (suc p))) s = absurd (omega (arith, s.seat, is_n three_apart))
 
-pub apart-is_enough : ApartIsEnough
-apart-is_enough n trail steps low high w = agreement_of n trail low high (run_reached steps start) w
+pub apart_is_enough : ApartIsEnough
+apart_is_enough n trail steps low high w = agreement_of n trail low high (run_reached steps start) w
 
-pub alone-stays : AloneStays
-alone-stays = record {
+pub alone_stays : AloneStays
+alone_stays = record {
   within = is_within alone (omega arith) (omega arith) refl;
-  fault = is-fault alone 1 0 refl refl;
-  over = omega (arith, is-n alone, is-time alone);
+  fault = is_fault alone 1 0 refl refl;
+  over = omega (arith, is_n alone, is_time alone);
   stays = ap not (is_in alone 1 1 refl);
 }

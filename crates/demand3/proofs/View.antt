@@ -17,13 +17,13 @@ use Rattle.ring.specs.Step.{slot_of, ring_after}
 use Rattle.ring.specs.declared.Ring.{Ring}
 use Rattle.turn.specs.declared.Seat.{Seat}
 use Rattle.turn.specs.declared.Slot.{Slot}
-use Rattle.turn.proofs.GoneLaws.{takes_itself, takes_owner, gone-has}
+use Rattle.turn.proofs.GoneLaws.{takes_itself, takes_owner, gone_has}
 use Rattle.steps.proofs.Seen.{view_table, view_missed}
 use Rattle.turn.proofs.TurnLaws.{turn_elim}
-use Rattle.steps.proofs.After.{seat-after, seat_beyond}
+use Rattle.steps.proofs.After.{seat_after, seat_beyond}
 use Rattle.demand3.proofs.Model.{State, Marked, owns, acts, rests, role}
 use Rattle.demand3.proofs.Model.{speaks, row, learns, hold, left, step}
-use Rattle.demand3.proofs.Seat.{role-own, role-act, role-out, role-blind, Still, still}
+use Rattle.demand3.proofs.Seat.{role_own, role_act, role_out, role_blind, Still, still}
 
 abbrev pub state_of : Ring → State
 state_of r = record {
@@ -60,8 +60,8 @@ module _ (r : Ring) (send : Bool) (receive : ℕ) where
   bit = (seat_of r (owner_of r)).ack
 
   -- where as much took hold, the first fault is the same
-  first-is : {held : Bool} (mark : Bool) (fault : ℕ) → held ≡ mark → fault_after mark (r.time + 1) fault ≡ fault_after held (suc r.time) fault
-  first-is mark fault e = rw (e, add-one r.time)
+  first_is : {held : Bool} (mark : Bool) (fault : ℕ) → held ≡ mark → fault_after mark (r.time + 1) fault ≡ fault_after held (suc r.time) fault
+  first_is mark fault e = rw (e, add-one r.time)
 
   module _ (p : ℕ) where
     abbrev s : Seat
@@ -70,7 +70,7 @@ module _ (r : Ring) (send : Bool) (receive : ℕ) where
     stays : role t p ≡ rests → Matches t p s
     stays e =
         let z : Still t p = still t p e in
-        record { set = λ q. sym (z.set q); ack = sym z.ack; doubt = sym z.doubt; fault = first-is false s.fault z.hold }
+        record { set = λ q. sym (z.set q); ack = sym z.ack; doubt = sym z.doubt; fault = first_is false s.fault z.hold }
 
     owning : role t p ≡ owns → Matches t p (owner_turn slot s).seat
     owning o =
@@ -79,7 +79,7 @@ module _ (r : Ring) (send : Bool) (receive : ℕ) where
           set = λ q. cc;
           ack = cc;
           doubt = cc;
-          fault = first-is send s.fault h;
+          fault = first_is send s.fault h;
         }
 
     told : table (arrived (view_of slot p)) (bit_of (view_of slot p)) s.ack s.doubt ≡ row t p
@@ -92,23 +92,23 @@ module _ (r : Ring) (send : Bool) (receive : ℕ) where
         record {
           set = λ q.
               let e : (step t).set p q ≡ left t p q = cc in
-              gone-has s.set p slot.owner q (decided (view_of slot p) s.ack s.doubt).removal
+              gone_has s.set p slot.owner q (decided (view_of slot p) s.ack s.doubt).removal
               ∙ ap
               (λ (x : Row). has_seat s.set q && not (takes_itself x.removed && eqb q p) && not (takes_owner x.removed && eqb q slot.owner))
               told
               ∙ sym e;
           ack = ap (λ (x : Row). x.ack) told ∙ sym k;
           doubt = cc;
-          fault = first-is (is_missed (view_of slot p)) s.fault (h ∙ sym (view_missed (speaks t) (has_seat receive p) bit));
+          fault = first_is (is_missed (view_of slot p)) s.fault (h ∙ sym (view_missed (speaks t) (has_seat receive p) bit));
         }
 
     matches : Matches t p (turn_of slot p s).seat
     matches =
         turn_elim slot p s (λ u. Matches t p u.seat)
-        (λ h. stays (role-out t p h))
-        (λ h e. owning (role-own t p e h))
-        (λ h n g. acting (role-act t p n h g))
-        (λ h n g. stays (role-blind t p n g))
+        (λ h. stays (role_out t p h))
+        (λ h e. owning (role_own t p e h))
+        (λ h n g. acting (role_act t p n h g))
+        (λ h n g. stays (role_blind t p n g))
 
 -- ---- the ring
 
@@ -120,18 +120,18 @@ module _ (r : Ring) (send : Bool) (receive : ℕ) (empty : EmptyBeyond r) where
   abbrev later : Ring
   later = ring_after r (slot_of r send receive)
 
-  pub empty-after : EmptyBeyond later
-  empty-after p h = ap (λ (s : Seat). s.set) (seat_beyond r (slot_of r send receive) p h) ∙ empty p h
+  pub empty_after : EmptyBeyond later
+  empty_after p h = ap (λ (s : Seat). s.set) (seat_beyond r (slot_of r send receive) p h) ∙ empty p h
 
-  matches-after : (p : ℕ) → Matches (marked_of r send receive) p (seat_of later p)
-  matches-after p =
+  matches_after : (p : ℕ) → Matches (marked_of r send receive) p (seat_of later p)
+  matches_after p =
       ⊎_elim
       (λ e.
-      subst (Matches (marked_of r send receive) p) (sym (seat-after r (slot_of r send receive) p (ltb-true p r.n e)))
+      subst (Matches (marked_of r send receive) p) (sym (seat_after r (slot_of r send receive) p (ltb-true p r.n e)))
       (matches r send receive p))
       (λ e.
       let h = ltb-false p r.n e in
-      let o = role-out (marked_of r send receive) p (ap (λ (x : ℕ). has_seat x p) (empty p h) ∙ nobody_in p) in
+      let o = role_out (marked_of r send receive) p (ap (λ (x : ℕ). has_seat x p) (empty p h) ∙ nobody_in p) in
       subst (Matches (marked_of r send receive) p) (sym (seat_beyond r (slot_of r send receive) p h)) (stays r send receive p o))
       (both (ltb p r.n))
 
@@ -139,8 +139,8 @@ module _ (r : Ring) (send : Bool) (receive : ℕ) (empty : EmptyBeyond r) where
   state_after = λ i. record {
     n = r.n;
     time = add-one r.time i;
-    set = λ p q. (matches-after p).set q i;
-    ack = λ p. (matches-after p).ack i;
-    doubt = λ p. (matches-after p).doubt i;
-    fault = λ p. (matches-after p).fault i;
+    set = λ p q. (matches_after p).set q i;
+    ack = λ p. (matches_after p).ack i;
+    doubt = λ p. (matches_after p).doubt i;
+    fault = λ p. (matches_after p).fault i;
   }

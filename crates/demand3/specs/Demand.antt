@@ -15,12 +15,12 @@ use Rattle.demand3.specs.Faults.{SoundSeat, FirstFault}
 pub record Agreement (r : Ring) : Type 0 where
   -- all sound seats hold the same set and the same acknowledgement bit
   pub same_set : {p q : ℕ} → SoundSeat r p → SoundSeat r q → (seat_of r p).set ≡ (seat_of r q).set
-  pub same-ack : {p q : ℕ} → SoundSeat r p → SoundSeat r q → (seat_of r p).ack ≡ (seat_of r q).ack
+  pub same_ack : {p q : ℕ} → SoundSeat r p → SoundSeat r q → (seat_of r p).ack ≡ (seat_of r q).ack
   -- the set has every sound seat, at most one faulty one, and none that is no seat of the ring
   pub sound_in : {p q : ℕ} → SoundSeat r p → SoundSeat r q → has_seat (seat_of r p).set q ≡ true
-  pub one-faulty : {p x y t u : ℕ} → SoundSeat r p → FirstFault r x t → FirstFault r y u
+  pub one_faulty : {p x y t u : ℕ} → SoundSeat r p → FirstFault r x t → FirstFault r y u
       → has_seat (seat_of r p).set x ≡ true → has_seat (seat_of r p).set y ≡ true → x ≡ y
-  pub only-seats : {p : ℕ} → SoundSeat r p → (seat_of r p).set < 2 ^ r.n
+  pub only_seats : {p : ℕ} → SoundSeat r p → (seat_of r p).set < 2 ^ r.n
   -- a seat x whose first fault is in slot t is in no sound seat's set once a slot k of its own, from t on,
   -- has been stepped
   pub left_by : {p x t : ℕ} → SoundSeat r p → FirstFault r x t → (k : ℕ) → t ≤ k → k < r.time → k % r.n ≡ x
@@ -29,7 +29,7 @@ pub record Agreement (r : Ring) : Type 0 where
   pub stays_till : {p x t : ℕ} → SoundSeat r p → FirstFault r x t → ((k : ℕ) → t ≤ k → k < r.time → k % r.n ≡ x → ⊥)
       → has_seat (seat_of r p).set x ≡ true
   -- after slot t + n - 1 it is out of its own set, or its set holds it alone
-  pub gone-by : {x t : ℕ} → FirstFault r x t → t + r.n ≤ r.time → (out x (seat_of r x) ≡ true) ⊎ ((seat_of r x).set ≡ 2 ^ x)
+  pub gone_by : {x t : ℕ} → FirstFault r x t → t + r.n ≤ r.time → (out x (seat_of r x) ≡ true) ⊎ ((seat_of r x).set ≡ 2 ^ x)
 
 -- ---- a run
 

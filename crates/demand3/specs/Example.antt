@@ -10,11 +10,11 @@ use Rattle.demand3.specs.Runs.{five_apart, before_own, seats_in, steps_of, trail
 -- seat that is still in the sets
 pub record Example : Type 0 where
   pub within : RunWithin (seats_in five_apart) trail_of_run (steps_of five_apart)
-  pub one-sound : SoundSeat (last_ring five_apart) 0
-  pub other-sound : SoundSeat (last_ring five_apart) 2
-  pub first-fault : FirstFault (last_ring five_apart) 3 0
-  pub second-fault : FirstFault (last_ring five_apart) 1 5
-  pub own-slot : 5 % (last_ring five_apart).n ≡ 1
+  pub one_sound : SoundSeat (last_ring five_apart) 0
+  pub other_sound : SoundSeat (last_ring five_apart) 2
+  pub first_fault : FirstFault (last_ring five_apart) 3 0
+  pub second_fault : FirstFault (last_ring five_apart) 1 5
+  pub own_slot : 5 % (last_ring five_apart).n ≡ 1
   pub over : 5 + (last_ring five_apart).n ≤ (last_ring five_apart).time
   pub agreement : Agreement (last_ring five_apart)
   pub earlier : RunWithin (seats_in before_own) trail_of_run (steps_of before_own)

@@ -30,8 +30,8 @@ pub record TwoSound (r : Ring) (t : ℕ) : Type 0 where
   pub one : ℕ
   pub other : ℕ
   pub differ : one ≡ other → ⊥
-  pub one-sound : SoundAfter r t one
-  pub other-sound : SoundAfter r t other
+  pub one_sound : SoundAfter r t one
+  pub other_sound : SoundAfter r t other
 
 -- the fault terms hold up to step t
 pub record TermsHold (r : Ring) (t : ℕ) : Type 0 where

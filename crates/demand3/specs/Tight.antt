@@ -16,10 +16,10 @@ pub record Breaks (x : Run) : Type 0 where
 
 -- one with two sound seats left, and one with one
 pub record Tight : Type 0 where
-  pub two-left : Breaks four_apart
-  pub two-sound : TwoSound (last_ring four_apart) (last_ring four_apart).time
+  pub two_left : Breaks four_apart
+  pub two_sound : TwoSound (last_ring four_apart) (last_ring four_apart).time
   pub one_left : Breaks three_apart
-  pub one-sound : SoundSeat (last_ring three_apart) 1
+  pub one_sound : SoundSeat (last_ring three_apart) 1
   pub no_other : (p : ℕ) → SoundSeat (last_ring three_apart) p → p ≡ 1
 
 -- n + 1 slots apart is enough, with however few sound seats

@@ -18,7 +18,7 @@ pub record FirstFailing (r : Ring) (T : ℕ) : Type 0 where
 
 -- both verdicts, both ways
 pub record Decides (r : Ring) : Type 0 where
-  pub within-kept : verdict_found r ≡ within → TermsKept r
-  pub kept-within : is_ring r room_most ≡ true → TermsKept r → verdict_found r ≡ within
-  pub outside-failing : (T : ℕ) → verdict_found r ≡ outside T → FirstFailing r T
-  pub failing-outside : is_ring r room_most ≡ true → (T : ℕ) → FirstFailing r T → verdict_found r ≡ outside T
+  pub within_kept : verdict_found r ≡ within → TermsKept r
+  pub kept_within : is_ring r room_most ≡ true → TermsKept r → verdict_found r ≡ within
+  pub outside_failing : (T : ℕ) → verdict_found r ≡ outside T → FirstFailing r T
+  pub failing_outside : is_ring r room_most ≡ true → (T : ℕ) → FirstFailing r T → verdict_found r ≡ outside T

@@ -55,9 +55,9 @@ get_or-tab (suc k) f d i h =
 -- ---- a list whose first p elements are drawn anew, the rest being as they were
 
 -- one more turn of a loop that writes element p
-pub draw-next : {A : Type 0} (p : ℕ) (f : ℕ → A) (old : List A) → p < length old
+pub draw_next : {A : Type 0} (p : ℕ) (f : ℕ → A) (old : List A) → p < length old
     → set (tab p f ++ drop p old) p (f p) ≡ tab (p + 1) f ++ drop (p + 1) old
-draw-next p f old h =
+draw_next p f old h =
     ap (λ (l : List _). set (tab p f ++ l) p (f p)) (drop-cons old p (f p) h)
     ∙ set_at (tab p f) (get_or old p (f p)) (drop (suc p) old) (f p) p (length-tab p f)
     ∙ sym (append_snoc (tab p f) (f p) (drop (suc p) old))
@@ -79,12 +79,12 @@ drawn_above n f old d p l =
     ∙ ap (λ (x : ℕ). get_or old x d) g
 
 -- and one more turn of a loop that finds element p as it is to be, and leaves it
-pub draw-same : {A : Type 0} (p : ℕ) (f : ℕ → A) (old : List A) (d : A) → p < length old → f p ≡ get_or old p d
+pub draw_same : {A : Type 0} (p : ℕ) (f : ℕ → A) (old : List A) (d : A) → p < length old → f p ≡ get_or old p d
     → tab p f ++ drop p old ≡ tab (p + 1) f ++ drop (p + 1) old
-draw-same p f old d h e =
+draw_same p f old d h e =
     sym (set-get_or (tab p f ++ drop p old) p d)
     ∙ ap (set (tab p f ++ drop p old) p) (drawn_above p f old d p (le_refl p) ∙ sym e)
-    ∙ draw-next p f old h
+    ∙ draw_next p f old h
 
 -- elements that are all alike are as they were
 pub drawn_alike : {A : Type 0} (x : A) (k p : ℕ) → p ≤ k → tab p (λ q. x) ++ drop p (replicate k x) ≡ replicate k x
@@ -97,15 +97,15 @@ drawn_alike x k p h =
     go i l (no b) = drawn_above p (λ q. x) (replicate k x) x i (omega arith)
 
 -- and so is what stands past the end of such a list
-pub get_or-alike : {A : Type 0} (k i : ℕ) (x : A) → get_or (replicate k x) i x ≡ x
-get_or-alike zero i x = refl
-get_or-alike (suc k) zero x = refl
-get_or-alike (suc k) (suc i) x = get_or-alike k i x
+pub get_or_alike : {A : Type 0} (k i : ℕ) (x : A) → get_or (replicate k x) i x ≡ x
+get_or_alike zero i x = refl
+get_or_alike (suc k) zero x = refl
+get_or_alike (suc k) (suc i) x = get_or_alike k i x
 
 -- ---- joined
 
-pub joined-more : {A : Type 0} (f : ℕ → List A) (k : ℕ) → joined (k + 1) f ≡ joined k f ++ f k
-joined-more f k = ap (λ (x : ℕ). joined x f) (add-one k)
+pub joined_more : {A : Type 0} (f : ℕ → List A) (k : ℕ) → joined (k + 1) f ≡ joined k f ++ f k
+joined_more f k = ap (λ (x : ℕ). joined x f) (add-one k)
 
 pub length-joined : {A : Type 0} (f : ℕ → List A) (k : ℕ) → length (joined k f) ≡ sum k (λ i. length (f i))
 length-joined f zero = refl
@@ -120,9 +120,9 @@ pub sum_same : (f g : ℕ → ℕ) (k : ℕ) → ((i : ℕ) → i < k → f i �
 sum_same f g zero h = refl
 sum_same f g (suc k) h = ap₂ (λ (a b : ℕ). a + b) (sum_same f g k (λ i l. h i (omega arith))) (h k (omega arith))
 
-pub sum-times : (c : ℕ) (f : ℕ → ℕ) (k : ℕ) → sum k (λ i. c * f i) ≡ c * sum k f
-sum-times c f zero = sym (mul-zero c)
-sum-times c f (suc k) = ap (λ (x : ℕ). x + c * f k) (sum-times c f k) ∙ sym (mul-add c (sum k f) (f k))
+pub sum_times : (c : ℕ) (f : ℕ → ℕ) (k : ℕ) → sum k (λ i. c * f i) ≡ c * sum k f
+sum_times c f zero = sym (mul-zero c)
+sum_times c f (suc k) = ap (λ (x : ℕ). x + c * f k) (sum_times c f k) ∙ sym (mul-add c (sum k f) (f k))
 
 -- the sum grows with its count
 pub sum_le : (f : ℕ → ℕ) (j k : ℕ) → j ≤ k → sum j f ≤ sum k f
@@ -133,12 +133,12 @@ pub sum_mono : (f g : ℕ → ℕ) (k : ℕ) → ((i : ℕ) → i < k → f i �
 sum_mono f g zero h = le_refl 0
 sum_mono f g (suc k) h = let r = sum_mono f g k (λ i l. h i (omega arith)) in let s = h k (omega arith) in omega arith
 
-pub sum-at-most : (f : ℕ → ℕ) (c k : ℕ) → ((i : ℕ) → i < k → f i ≤ c) → sum k f ≤ c * k
-sum-at-most f c zero h = omega arith
-sum-at-most f c (suc k) h = let r = sum-at-most f c k (λ i l. h i (omega arith)) in let s = h k (omega arith) in omega (arith, mul-suc c k)
+pub sum_at_most : (f : ℕ → ℕ) (c k : ℕ) → ((i : ℕ) → i < k → f i ≤ c) → sum k f ≤ c * k
+sum_at_most f c zero h = omega arith
+sum_at_most f c (suc k) h = let r = sum_at_most f c k (λ i l. h i (omega arith)) in let s = h k (omega arith) in omega (arith, mul-suc c k)
 
 pub count_le : (test : ℕ → Bool) (k : ℕ) → count_below k test ≤ k
-count_le test k = let r = sum-at-most (λ i. cond (test i) 1 0) 1 k (λ i l. one (test i)) in omega arith
+count_le test k = let r = sum_at_most (λ i. cond (test i) 1 0) 1 k (λ i l. one (test i)) in omega arith
   where
     one : (b : Bool) → cond b 1 0 ≤ 1
     one true = omega arith
@@ -156,14 +156,14 @@ pub sum_const : (c k : ℕ) → sum k (λ i. c) ≡ c * k
 sum_const c zero = sym (mul-zero c)
 sum_const c (suc k) = let a = sum_const c k in let b = mul-suc c k in omega arith
 
-pub sum-zero : (f : ℕ → ℕ) (k : ℕ) → ((i : ℕ) → i < k → f i ≡ 0) → sum k f ≡ 0
-sum-zero f k h = sum_same f (λ i. 0) k h ∙ sum_const 0 k ∙ zero-mul k
+pub sum_zero : (f : ℕ → ℕ) (k : ℕ) → ((i : ℕ) → i < k → f i ≡ 0) → sum k f ≡ 0
+sum_zero f k h = sum_same f (λ i. 0) k h ∙ sum_const 0 k ∙ zero-mul k
 
 -- a sum of which one term alone is not 0
-pub sum-only : (f : ℕ → ℕ) (k p : ℕ) → p < k → ((i : ℕ) → (i ≡ p → ⊥) → f i ≡ 0) → sum k f ≡ f p
-sum-only f zero p l h = absurd (omega arith)
-sum-only f (suc k) p l h =
+pub sum_only : (f : ℕ → ℕ) (k p : ℕ) → p < k → ((i : ℕ) → (i ≡ p → ⊥) → f i ≡ 0) → sum k f ≡ f p
+sum_only f zero p l h = absurd (omega arith)
+sum_only f (suc k) p l h =
     ⊎_elim
-    (λ m. let a = sum-only f k p m h in let b = h k (omega arith) in omega arith)
-    (λ e. let a = sum-zero f k (λ i m. h i (omega arith)) in let b = ap f e in omega arith)
+    (λ m. let a = sum_only f k p m h in let b = h k (omega arith) in omega arith)
+    (λ e. let a = sum_zero f k (λ i m. h i (omega arith)) in let b = ap f e in omega arith)
     (below_last p k l)

@@ -64,8 +64,8 @@ module _ {A : Type 0} (d : A) where
         (both (ltb i (length xs))))
         (both (ltb j (length xs)))
 
-    pub tally-append : (test : A → Bool) → tally test (xs ++ ys) ≡ tally test xs + tally test ys
-    tally-append test =
+    pub tally_append : (test : A → Bool) → tally test (xs ++ ys) ≡ tally test xs + tally test ys
+    tally_append test =
         let f : ℕ → ℕ = λ i. cond (test (get_or (xs ++ ys) i d)) 1 0 in
         ap (λ (k : ℕ). sum k f) (length-append xs ys)
         ∙ sum_split f (length xs) (length ys)
@@ -105,6 +105,6 @@ module _ {A : Type 0} (d : A) where
     every_joined P zero h = every_nil P
     every_joined P (suc k) h = every_append (joined k f) (f k) P (every_joined P k (λ p l. h p (omega arith))) (h k (omega arith))
 
-    pub tally-joined : (test : A → Bool) (k : ℕ) → tally test (joined k f) ≡ sum k (λ p. tally test (f p))
-    tally-joined test zero = refl
-    tally-joined test (suc k) = tally-append (joined k f) (f k) test ∙ ap (λ (x : ℕ). x + tally test (f k)) (tally-joined test k)
+    pub tally_joined : (test : A → Bool) (k : ℕ) → tally test (joined k f) ≡ sum k (λ p. tally test (f p))
+    tally_joined test zero = refl
+    tally_joined test (suc k) = tally_append (joined k f) (f k) test ∙ ap (λ (x : ℕ). x + tally test (f k)) (tally_joined test k)

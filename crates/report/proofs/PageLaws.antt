@@ -42,33 +42,33 @@ holds x e =
 -- ---- the page by the answer
 
 module _ (x : Result) (bus : Heard) (v : Verdict) where
-  pub page-unfit : {why : Refusal} {place : ℕ} → v ≡ verdicts.Refused why place → refused_line (number_of why) place ≡ ran_page x bus (found v)
-  page-unfit e = rw e
+  pub page_unfit : {why : Refusal} {place : ℕ} → v ≡ verdicts.Refused why place → refused_line (number_of why) place ≡ ran_page x bus (found v)
+  page_unfit e = rw e
 
   -- by the position of the verdict's variant: within is 0, outside is 1
   module _ (fit : (tag_of the_type v ≡ 0) ⊎ (tag_of the_type v ≡ 1)) where
-    fit-page : sections x bus (found v) ≡ ran_page x bus (found v)
-    fit-page = go v fit
+    fit_page : sections x bus (found v) ≡ ran_page x bus (found v)
+    fit_page = go v fit
       where
         go : (w : Verdict) → (tag_of the_type w ≡ 0) ⊎ (tag_of the_type w ≡ 1) → sections x bus (found w) ≡ ran_page x bus (found w)
         go verdicts.Within m = refl
         go (verdicts.Outside t) m = refl
         go (verdicts.Refused why place) m = absurd (⊎_elim (λ e. omega arith) (λ e. omega arith) m)
 
-    pub page-printed : printable x ≡ true → up_to_faults x (bus_line bus) ++ faults_line (found v) ≡ ran_page x bus (found v)
-    page-printed e = rw (← fit-page, e) (simp append_assoc)
+    pub page_printed : printable x ≡ true → up_to_faults x (bus_line bus) ++ faults_line (found v) ≡ ran_page x bus (found v)
+    page_printed e = rw (← fit_page, e) (simp append_assoc)
 
     pub page_no_ring : printable x ≡ false → refused_line (number_of NotARing) 0 ≡ ran_page x bus (found v)
-    page_no_ring e = rw (← fit-page, e)
+    page_no_ring e = rw (← fit_page, e)
 
 module _ (r : Ran) (t : List ℕ) where
-  pub page-refused : {why : Refusal} {place : ℕ} → r.answer ≡ answers.Refused why place → refused_line (number_of why) place ≡ page_of (result_of r t)
+  pub page_refused : {why : Refusal} {place : ℕ} → r.answer ≡ answers.Refused why place → refused_line (number_of why) place ≡ page_of (result_of r t)
   unfolding page_of
-  page-refused e = rw e
+  page_refused e = rw e
 
-  pub page-ran : {bus : Bus} {v : Verdict} → r.answer ≡ answers.Ran bus v → ran_page (result_of r t) (heard bus) (found v) ≡ page_of (result_of r t)
+  pub page_ran : {bus : Bus} {v : Verdict} → r.answer ≡ answers.Ran bus v → ran_page (result_of r t) (heard bus) (found v) ≡ page_of (result_of r t)
   unfolding page_of
-  page-ran e = rw e
+  page_ran e = rw e
 
 -- ---- the promise
 

@@ -7,11 +7,11 @@ use native.Mathlib.Nat.{le_refl, mul-add}
 use native.Mathlib.Omega.{arith}
 use lib.ListN.{length, length-append}
 use Rattle.lists.specs.Counted.{joined}
-use Rattle.lists.proofs.Counted.{joined-more}
+use Rattle.lists.proofs.Counted.{joined_more}
 use Rattle.text.specs.Decimal.{decimal}
 use Rattle.text.specs.Lent.{Lent, lent, with_byte, with_text}
 use Rattle.text.specs.declared.Place.{Place}
-use Rattle.text.proofs.Writing.{text_after, byte-alone}
+use Rattle.text.proofs.Writing.{text_after, byte_alone}
 use Rattle.report.specs.Inside.{count_most, Writes}
 use Rattle.report.specs.Page.{line_of, section}
 
@@ -21,7 +21,7 @@ nothing_writes = record { done = refl; short = omega arith }
 
 -- a byte, a word or a number of `text`
 pub byte_writes : {place place' : Place} {page page' : List ℕ} {byte : ℕ} → lent place' page' ≡ with_byte (lent place page) byte → Writes (byte ∷ []) 1 place page place' page'
-byte_writes e = record { done = e ∙ sym (byte-alone _ _); short = omega arith }
+byte_writes e = record { done = e ∙ sym (byte_alone _ _); short = omega arith }
 
 pub word_writes : {place place' : Place} {page page' : List ℕ} (word : List ℕ) → lent place' page' ≡ with_text (lent place page) word → Writes word (length word) place page place' page'
 word_writes word e = record { done = e; short = le_refl (length word) }
@@ -57,7 +57,7 @@ module _ (line : ℕ → List ℕ) (most : ℕ) where
 
   pub lines_more : {k : ℕ} {p q r : Place} {x y z : List ℕ} → Writes (joined k line) (most * k) p x q y → Writes (line k) most q y r z
       → Writes (joined (k + 1) line) (most * (k + 1)) p x r z
-  lines_more {k = k} f g = looser (omega (arith, mul-add most k 1)) (same (sym (joined-more line k)) (then f g))
+  lines_more {k = k} f g = looser (omega (arith, mul-add most k 1)) (same (sym (joined_more line k)) (then f g))
 
   pub lines_end : {n k : ℕ} {p q r : Place} {x y z : List ℕ} → k ≡ n → Writes (line_of (decimal n ∷ [])) count_most p x q y → Writes (joined k line) (most * k) q y r z
       → Writes (section n line) (count_most + most * n) p x r z

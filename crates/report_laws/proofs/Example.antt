@@ -22,20 +22,20 @@ use Rattle.report.specs.Page.{record_line, seat_line, bus_line, faults_line, ref
 use Rattle.sheet_page.specs.Promise.{text_of}
 use Rattle.report_laws.specs.Example.{example_sheet, example_page}
 
-pub example-printed : text_of example_sheet ≡ example_page
+pub example_printed : text_of example_sheet ≡ example_page
 unfolding text_of empty_trail page_of example_sheet example_page record_line seat_line decimal digits_in ones_in run_of run_from marks_at sheet_in no_modules no_marks no_slots lines_at module_line mark_line slot_line is_new line_at ended end_at number_at digits_at byte_at fields_at spaced_at mark_offence step_told ring_of trail_of verdict_found is_ring every_seat_stands fresh_ring zero_ring turn_of terms_hold first_failing
-example-printed = refl
+example_printed = refl
 
 -- 2, `bus differs 307`, `faults outside 4`
-pub differs-printed : verdict (bus_line (differs 307)) (faults_line (outside 4))
+pub differs_printed : verdict (bus_line (differs 307)) (faults_line (outside 4))
     ≡ (50 ∷ 10 ∷ [])
     ++ (98 ∷ 117 ∷ 115 ∷ 32 ∷ 100 ∷ 105 ∷ 102 ∷ 102 ∷ 101 ∷ 114 ∷ 115 ∷ 32 ∷ 51 ∷ 48 ∷ 55 ∷ 10 ∷ [])
     ++ (102 ∷ 97 ∷ 117 ∷ 108 ∷ 116 ∷ 115 ∷ 32 ∷ 111 ∷ 117 ∷ 116 ∷ 115 ∷ 105 ∷ 100 ∷ 101 ∷ 32 ∷ 52 ∷ 10 ∷ [])
 unfolding decimal digits_in
-differs-printed = refl
+differs_printed = refl
 
 -- `refused 10 16384`
-pub refused-printed : refused_line 10 16384
+pub refused_printed : refused_line 10 16384
     ≡ 114 ∷ 101 ∷ 102 ∷ 117 ∷ 115 ∷ 101 ∷ 100 ∷ 32 ∷ 49 ∷ 48 ∷ 32 ∷ 49 ∷ 54 ∷ 51 ∷ 56 ∷ 52 ∷ 10 ∷ []
 unfolding decimal digits_in
-refused-printed = refl
+refused_printed = refl

@@ -9,7 +9,7 @@ use Rattle.trail.specs.Trail.{width, empty_trail}
 use Rattle.ring.specs.Refusals.{within, outside, unfit}
 use Rattle.run.specs.Outcome.{Outcome, ran, refused}
 use Rattle.run.specs.Run.{run_of}
-use Rattle.run_laws.proofs.Verdicts.{never-unfit}
+use Rattle.run_laws.proofs.Verdicts.{never_unfit}
 use Rattle.demand2_sheets.proofs.Refused.{only_the_reader}
 use Rattle.report.specs.Page.{page_of, refused_line}
 use Rattle.sheet_page.specs.Promise.{text_of}
@@ -22,14 +22,14 @@ all_room : width * room_most ≤ length empty_trail
 unfolding empty_trail
 all_room = omega (arith, length-replicate {A = ℕ} (width * room_most) 0)
 
-pub page-stands : (sheet : List ℕ) → Stands sheet
+pub page_stands : (sheet : List ℕ) → Stands sheet
 unfolding text_of page_of
-page-stands sheet = go (run_of sheet empty_trail).outcome refl
+page_stands sheet = go (run_of sheet empty_trail).outcome refl
   where
     go : (o : Outcome) → (run_of sheet empty_trail).outcome ≡ o → Stands sheet
     go (ran bus within) e = pages.whole bus within e (rw e (run-sections sheet empty_trail bus within))
     go (ran bus (outside t)) e = pages.whole bus (outside t) e (rw e (run-sections sheet empty_trail bus (outside t)))
-    go (ran bus (unfit number place)) e = absurd (never-unfit sheet empty_trail bus number place e)
+    go (ran bus (unfit number place)) e = absurd (never_unfit sheet empty_trail bus number place e)
     go (refused number place) e =
         let r = only_the_reader sheet empty_trail all_room number place e in
         pages.refusal r.0 place r.2 (rw e (ap (λ (k : ℕ). refused_line k place) r.1))

@@ -23,12 +23,12 @@ one_written p q x y z a b = (ap (λ (l : Lent). l.place) (a ∙ sym b), ap (λ (
 one_text : (text page : List ℕ) (r s : ℕ) (page' page'' : List ℕ) → Prints text page r page' → Prints text page s page'' → (r ≡ s) × (page' ≡ page'')
 one_text text page r s page' page'' a b = (a.result ∙ sym b.result, a.bytes ∙ sym b.bytes)
 
-pub one-print : (ran : Ran) (trail page : List ℕ) (r s : ℕ) (page' page'' : List ℕ) → PrintPromise ran trail page r page' → PrintPromise ran trail page s page''
+pub one_print : (ran : Ran) (trail page : List ℕ) (r s : ℕ) (page' page'' : List ℕ) → PrintPromise ran trail page r page' → PrintPromise ran trail page s page''
     → (r ≡ s) × (page' ≡ page'')
-one-print ran trail = one_text (page_of (result_of ran trail))
+one_print ran trail = one_text (page_of (result_of ran trail))
 
-pub one-page : (sheet page : List ℕ) (r s : ℕ) (page' page'' : List ℕ) → PagePromise sheet page r page' → PagePromise sheet page s page'' → (r ≡ s) × (page' ≡ page'')
-one-page sheet = one_text (text_of sheet)
+pub one_page : (sheet page : List ℕ) (r s : ℕ) (page' page'' : List ℕ) → PagePromise sheet page r page' → PagePromise sheet page s page'' → (r ≡ s) × (page' ≡ page'')
+one_page sheet = one_text (text_of sheet)
 
 -- ---- a buffer that is long enough
 
@@ -37,10 +37,10 @@ whole_text text page r page' h a =
     let l : length text ≤ length page = omega (arith, a.short) in
     (a.result ∙ rw (le-leb (length text) (length page) l), a.bytes ∙ ap (put page 0) (take_all (length page) text l))
 
-pub whole-print : (ran : Ran) (trail page : List ℕ) (r : ℕ) (page' : List ℕ) → page_most ≤ length page → PrintPromise ran trail page r page'
+pub whole_print : (ran : Ran) (trail page : List ℕ) (r : ℕ) (page' : List ℕ) → page_most ≤ length page → PrintPromise ran trail page r page'
     → (r ≡ length (page_of (result_of ran trail))) × (page' ≡ put page 0 (page_of (result_of ran trail)))
-whole-print ran trail = whole_text (page_of (result_of ran trail))
+whole_print ran trail = whole_text (page_of (result_of ran trail))
 
-pub whole-page : (sheet page : List ℕ) (r : ℕ) (page' : List ℕ) → page_most ≤ length page → PagePromise sheet page r page'
+pub whole_page_lem : (sheet page : List ℕ) (r : ℕ) (page' : List ℕ) → page_most ≤ length page → PagePromise sheet page r page'
     → (r ≡ length (text_of sheet)) × (page' ≡ put page 0 (text_of sheet))
-whole-page sheet = whole_text (text_of sheet)
+whole_page_lem sheet = whole_text (text_of sheet)

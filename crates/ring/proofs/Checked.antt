@@ -8,8 +8,8 @@ use native.Mathlib.Omega.{arith}
 use lib.Dec.{leb, ltb}
 use borrow.Author.Tests.{leb-true, le-leb, lt-ltb, le-ltb, ltb-true, ltb-false, eqb-true, not-true}
 use Rattle.limits.specs.Limits.{seats_stand, seats_least, seats_most, slots_most}
-use Rattle.lists.proofs.Tests.{both, and-true, and_of, all-at, all_from}
-use Rattle.seats.proofs.Sets.{below-full, full_is}
+use Rattle.lists.proofs.Tests.{both, and-true, and_of, all_at, all_from}
+use Rattle.seats.proofs.Sets.{below_full, full_is}
 use Rattle.seats.specs.Sets.{full_set}
 use Rattle.ring.specs.Ring.{seat_of, owner_of, no_seat, member_stands, absent_stands, seat_stands, every_seat_stands, is_ring}
 use Rattle.ring.specs.declared.Ring.{Ring}
@@ -21,10 +21,10 @@ pub use Rattle.ring.specs.Valid.{Member, Valid}
 pub member_of : (n time : ℕ) (s : Seat) → n ≤ seats_most → member_stands n time s ≡ true → Member n time s
 member_of n time s h e =
     let a = and-true _ _ e in
-    record { inside = below-full s.set n h (leb-true _ _ a.0); past = leb-true _ _ a.1 }
+    record { inside = below_full s.set n h (leb-true _ _ a.0); past = leb-true _ _ a.1 }
 
-pub member-stands : (n time : ℕ) (s : Seat) → n ≤ seats_most → Member n time s → member_stands n time s ≡ true
-member-stands n time s h m =
+pub member_stands_lem : (n time : ℕ) (s : Seat) → n ≤ seats_most → Member n time s → member_stands n time s ≡ true
+member_stands_lem n time s h m =
     let f = full_is n h in
     let l = m.inside in
     and_of (le-leb s.set (full_set n) (omega arith)) (le-leb _ _ m.past)
@@ -40,22 +40,22 @@ absent_of s e =
     let l = eqb-true _ _ a.1 in
     λ x. record { set = i x; ack = j x; doubt = k x; fault = l x }
 
-pub absent-stands : (s : Seat) → s ≡ no_seat → absent_stands s ≡ true
-absent-stands s e = ap absent_stands e
+pub absent_stands_lem : (s : Seat) → s ≡ no_seat → absent_stands s ≡ true
+absent_stands_lem s e = ap absent_stands e
 
 -- ---- the ring
 
 every_at : (r : Ring) (p : ℕ) → every_seat_stands r ≡ true → p < seats_most → seat_stands r.n r.time p (seat_of r p) ≡ true
 unfolding every_seat_stands
-every_at r p e l = all-at (λ q. seat_stands r.n r.time q (seat_of r q)) seats_most p e l
+every_at r p e l = all_at (λ q. seat_stands r.n r.time q (seat_of r q)) seats_most p e l
 
 every_from : (r : Ring) → ((p : ℕ) → p < seats_most → seat_stands r.n r.time p (seat_of r p) ≡ true) → every_seat_stands r ≡ true
 unfolding every_seat_stands
 every_from r h = all_from (λ q. seat_stands r.n r.time q (seat_of r q)) seats_most h
 
-pub ring-valid : (r : Ring) (room : ℕ) → is_ring r room ≡ true → Valid r room
+pub ring_valid : (r : Ring) (room : ℕ) → is_ring r room ≡ true → Valid r room
 unfolding is_ring
-ring-valid r room e =
+ring_valid r room e =
     let a = and-true (seats_stand r.n && leb r.time slots_most && leb r.records room) (every_seat_stands r) e in
     let b = and-true (seats_stand r.n && leb r.time slots_most) (leb r.records room) a.0 in
     let c = and-true (seats_stand r.n) (leb r.time slots_most) b.0 in
@@ -74,15 +74,15 @@ ring-valid r room e =
           absent_of (seat_of r p) (rw (le-ltb p r.n l) at s);
     }
 
-pub valid-ring : (r : Ring) (room : ℕ) → Valid r room → is_ring r room ≡ true
+pub valid_ring : (r : Ring) (room : ℕ) → Valid r room → is_ring r room ≡ true
 unfolding is_ring
-valid-ring r room v =
+valid_ring r room v =
     and_of
     (and_of (and_of (and_of (le-leb _ _ v.least) (le-leb _ _ v.most)) (le-leb _ _ v.soon)) (le-leb _ _ v.fits))
     (every_from r (λ p l.
     ⊎_elim
-    (λ t. rw t (member-stands r.n r.time (seat_of r p) v.most (v.member p (ltb-true _ _ t))))
-    (λ f. rw f (absent-stands (seat_of r p) (v.absent p (ltb-false _ _ f) l)))
+    (λ t. rw t (member_stands_lem r.n r.time (seat_of r p) v.most (v.member p (ltb-true _ _ t))))
+    (λ f. rw f (absent_stands_lem (seat_of r p) (v.absent p (ltb-false _ _ f) l)))
     (both (ltb p r.n))))
 
 -- with more room it is still one
@@ -91,8 +91,8 @@ valid_wider r h v = record { least = v.least; most = v.most; soon = v.soon; fits
 
 -- ---- the owner of the slot
 
-pub owner-below : (r : Ring) (room : ℕ) → Valid r room → owner_of r < r.n
-owner-below r room v = let l = v.least in mod-lt r.time (omega arith)
+pub owner_below : (r : Ring) (room : ℕ) → Valid r room → owner_of r < r.n
+owner_below r room v = let l = v.least in mod-lt r.time (omega arith)
 
 -- n is a number of seats
 pub seats_stand_lem : (r : Ring) (room : ℕ) → Valid r room → seats_stand r.n ≡ true

@@ -4,10 +4,10 @@ use mathlib.Core.Bool.{false}
 use Prim.Native.Nat.{ℕ, ◌+◌, ◌*◌, ◌≤◌, ◌<◌}
 use native.Mathlib.Omega.{arith}
 use lib.ListN.{length, set}
-use Rattle.lists.proofs.Counted.{draw-next, draw-same, sum-at-most}
+use Rattle.lists.proofs.Counted.{draw_next, draw_same, sum_at_most}
 use Rattle.turn.specs.declared.Seat.{Seat}
 use Rattle.turn.specs.declared.Slot.{Slot}
-use Rattle.turn.proofs.GoneLaws.{count-is, count-few}
+use Rattle.turn.proofs.GoneLaws.{count_is, count_few}
 use Rattle.lists.specs.Counted.{sum}
 use Rattle.ring.specs.Ring.{seat_of, drawn_to}
 use Rattle.ring.specs.Step.{turn_at, count_at}
@@ -35,21 +35,21 @@ stored r p s = record {
 -- one more seat is drawn
 pub drawn_next : (r : Ring) (seat : ℕ → Seat) (p : ℕ) → Wide r p → stored (drawn_to p r seat) p (seat p) ≡ drawn_to (p + 1) r seat
 drawn_next r seat p w =
-    rw (draw-next p (λ q. (seat q).set) r.sets w.sets, draw-next p (λ q. (seat q).ack) r.acks w.acks, draw-next p (λ q. (seat q).doubt) r.doubts w.doubts, draw-next p (λ q. (seat q).fault) r.faults w.faults)
+    rw (draw_next p (λ q. (seat q).set) r.sets w.sets, draw_next p (λ q. (seat q).ack) r.acks w.acks, draw_next p (λ q. (seat q).doubt) r.doubts w.doubts, draw_next p (λ q. (seat q).fault) r.faults w.faults)
 
 -- a seat that keeps all is drawn already
 pub drawn_still : (r : Ring) (seat : ℕ → Seat) (p : ℕ) → Wide r p → seat p ≡ seat_of r p → drawn_to p r seat ≡ drawn_to (p + 1) r seat
 drawn_still r seat p w e = λ i. record {
-  sets = draw-same p (λ q. (seat q).set) r.sets 0 w.sets (λ j. (e j).set) i;
-  acks = draw-same p (λ q. (seat q).ack) r.acks false w.acks (λ j. (e j).ack) i;
-  doubts = draw-same p (λ q. (seat q).doubt) r.doubts false w.doubts (λ j. (e j).doubt) i;
-  faults = draw-same p (λ q. (seat q).fault) r.faults 0 w.faults (λ j. (e j).fault) i;
+  sets = draw_same p (λ q. (seat q).set) r.sets 0 w.sets (λ j. (e j).set) i;
+  acks = draw_same p (λ q. (seat q).ack) r.acks false w.acks (λ j. (e j).ack) i;
+  doubts = draw_same p (λ q. (seat q).doubt) r.doubts false w.doubts (λ j. (e j).doubt) i;
+  faults = draw_same p (λ q. (seat q).fault) r.faults 0 w.faults (λ j. (e j).fault) i;
   n = r.n;
   time = r.time;
   records = r.records;
 }
 
 -- the turns of k seats take at most twice as many
-pub counts-few : (r : Ring) (c : Slot) (k : ℕ) → sum k (count_at r c) ≤ 2 * k
-counts-few r c k =
-    sum-at-most (count_at r c) 2 k (λ p l. let e = count-is p c.owner (turn_at r c p).removal in let f = count-few (turn_at r c p).removal in omega arith)
+pub counts_few : (r : Ring) (c : Slot) (k : ℕ) → sum k (count_at r c) ≤ 2 * k
+counts_few r c k =
+    sum_at_most (count_at r c) 2 k (λ p l. let e = count_is p c.owner (turn_at r c p).removal in let f = count_few (turn_at r c p).removal in omega arith)

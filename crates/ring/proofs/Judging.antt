@@ -16,10 +16,10 @@ unfolding verdict_found
 no_verdict r e = rw e
 
 module _ (r : Ring) (e : is_ring r room_most ≡ true) (t : ℕ) (f : first_failing r.n r.faults r.time ≡ t) where
-  pub terms-outside : t < r.time → verdict_found r ≡ outside t
+  pub terms_outside : t < r.time → verdict_found r ≡ outside t
   unfolding verdict_found
-  terms-outside l = rw (e, f, lt-ltb t r.time l)
+  terms_outside l = rw (e, f, lt-ltb t r.time l)
 
-  pub terms-within : r.time ≤ t → verdict_found r ≡ within
+  pub terms_within : r.time ≤ t → verdict_found r ≡ within
   unfolding verdict_found
-  terms-within l = rw (e, f, le-ltb t r.time l)
+  terms_within l = rw (e, f, le-ltb t r.time l)

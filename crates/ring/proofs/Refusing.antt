@@ -23,9 +23,9 @@ module _ (r : Ring) (send : Bool) (receive bytes : ℕ) where
   no_ring a = rw a
 
   module _ (ring : is_ring r (room_for bytes) ≡ true) where
-    pub wrong-mark : marks_stand r.n (slot_of r send receive) ≡ false → step_told r send receive bytes ≡ refused (number_of WrongMark) r.time
+    pub wrong_mark : marks_stand r.n (slot_of r send receive) ≡ false → step_told r send receive bytes ≡ refused (number_of WrongMark) r.time
     unfolding step_told
-    wrong-mark b = rw (ring, b)
+    wrong_mark b = rw (ring, b)
 
     module _ (marks : marks_stand r.n (slot_of r send receive) ≡ true) where
       pub at_the_end : eqb r.time slots_most ≡ true → step_told r send receive bytes ≡ refused (number_of AtTheEnd) slots_most

@@ -6,7 +6,7 @@ use native.Mathlib.Omega.{arith}
 use lib.ListN.{set}
 use Rattle.ring.specs.Ring.{zero_ring, drawn_to, with_counts, fresh_seat}
 use Rattle.ring.specs.declared.Ring.{Ring}
-use Rattle.lists.proofs.Counted.{draw-next, drawn_alike}
+use Rattle.lists.proofs.Counted.{draw_next, drawn_alike}
 
 -- a fresh ring of n seats, of which those below p are filled
 abbrev pub begun : ℕ → ℕ → Ring
@@ -25,12 +25,12 @@ filled r p full = record {
 }
 
 -- nothing filled yet
-pub begun-none : (n : ℕ) → with_counts zero_ring n zero_ring.time zero_ring.records ≡ begun n 0
+pub begun_none : (n : ℕ) → with_counts zero_ring n zero_ring.time zero_ring.records ≡ begun n 0
 unfolding zero_ring
-begun-none n = refl
+begun_none n = refl
 
 -- one more seat is filled; what is not stored is zero already
-pub begun-next : (n p : ℕ) → p < 32 → filled (begun n p) p (fresh_seat n).set ≡ begun n (p + 1)
+pub begun_next : (n p : ℕ) → p < 32 → filled (begun n p) p (fresh_seat n).set ≡ begun n (p + 1)
 unfolding zero_ring
-begun-next n p h =
-    rw (draw-next p (λ q. (fresh_seat n).set) zero_ring.sets h, draw-next p (λ q. true) zero_ring.acks h, drawn_alike false 32 p (omega arith), drawn_alike false 32 (p + 1) (omega arith), drawn_alike {A = ℕ} 0 32 p (omega arith), drawn_alike {A = ℕ} 0 32 (p + 1) (omega arith))
+begun_next n p h =
+    rw (draw_next p (λ q. (fresh_seat n).set) zero_ring.sets h, draw_next p (λ q. true) zero_ring.acks h, drawn_alike false 32 p (omega arith), drawn_alike false 32 (p + 1) (omega arith), drawn_alike {A = ℕ} 0 32 p (omega arith), drawn_alike {A = ℕ} 0 32 (p + 1) (omega arith))

@@ -27,36 +27,36 @@ one_answer (answers.Refused x p) (answers.Refused y q) e =
     let m : p ≡ q = cc in
     ap₂ answers.Refused (one_reason x y k) m
 
-pub one-verdict : (a b : Verdict) → found a ≡ found b → a ≡ b
-one-verdict verdicts.Within verdicts.Within e = refl
-one-verdict verdicts.Within (verdicts.Outside t) e = let z : ◌≡◌ {A = ℕ} 0 1 = cc in absurd (omega arith)
-one-verdict verdicts.Within (verdicts.Refused y q) e = let z : ◌≡◌ {A = ℕ} 0 1 = cc in absurd (omega arith)
-one-verdict (verdicts.Outside t) verdicts.Within e = let z : ◌≡◌ {A = ℕ} 0 1 = cc in absurd (omega arith)
-one-verdict (verdicts.Outside t) (verdicts.Outside u) e = ap verdicts.Outside (cc)
-one-verdict (verdicts.Outside t) (verdicts.Refused y q) e = let z : ◌≡◌ {A = ℕ} 0 1 = cc in absurd (omega arith)
-one-verdict (verdicts.Refused x p) verdicts.Within e = let z : ◌≡◌ {A = ℕ} 0 1 = cc in absurd (omega arith)
-one-verdict (verdicts.Refused x p) (verdicts.Outside t) e = let z : ◌≡◌ {A = ℕ} 0 1 = cc in absurd (omega arith)
-one-verdict (verdicts.Refused x p) (verdicts.Refused y q) e =
+pub one_verdict : (a b : Verdict) → found a ≡ found b → a ≡ b
+one_verdict verdicts.Within verdicts.Within e = refl
+one_verdict verdicts.Within (verdicts.Outside t) e = let z : ◌≡◌ {A = ℕ} 0 1 = cc in absurd (omega arith)
+one_verdict verdicts.Within (verdicts.Refused y q) e = let z : ◌≡◌ {A = ℕ} 0 1 = cc in absurd (omega arith)
+one_verdict (verdicts.Outside t) verdicts.Within e = let z : ◌≡◌ {A = ℕ} 0 1 = cc in absurd (omega arith)
+one_verdict (verdicts.Outside t) (verdicts.Outside u) e = ap verdicts.Outside (cc)
+one_verdict (verdicts.Outside t) (verdicts.Refused y q) e = let z : ◌≡◌ {A = ℕ} 0 1 = cc in absurd (omega arith)
+one_verdict (verdicts.Refused x p) verdicts.Within e = let z : ◌≡◌ {A = ℕ} 0 1 = cc in absurd (omega arith)
+one_verdict (verdicts.Refused x p) (verdicts.Outside t) e = let z : ◌≡◌ {A = ℕ} 0 1 = cc in absurd (omega arith)
+one_verdict (verdicts.Refused x p) (verdicts.Refused y q) e =
     let k : number_of x ≡ number_of y = cc in
     let m : p ≡ q = cc in
     ap₂ verdicts.Refused (one_reason x y k) m
 
 -- ---- the promises
 
-same-stepped : {s s' : Stepped} → s.answer ≡ s'.answer → s.ring ≡ s'.ring → s ≡ s'
-same-stepped a r = ap₂ (λ (x : StepAnswer) (y : Ring). record { answer = x; ring = y }) a r
+same_stepped : {s s' : Stepped} → s.answer ≡ s'.answer → s.ring ≡ s'.ring → s ≡ s'
+same_stepped a r = ap₂ (λ (x : StepAnswer) (y : Ring). record { answer = x; ring = y }) a r
 
-pub one-zero : (r r' : Ring) → ZeroPromise r → ZeroPromise r' → r ≡ r'
-one-zero r r' a b = a.ring ∙ sym b.ring
+pub one_zero : (r r' : Ring) → ZeroPromise r → ZeroPromise r' → r ≡ r'
+one_zero r r' a b = a.ring ∙ sym b.ring
 
-pub one-fresh : (n : ℕ) (s s' : Stepped) → FreshPromise n s → FreshPromise n s' → s ≡ s'
-one-fresh n s s' a b = same-stepped (one_answer s.answer s'.answer (a.answer ∙ sym b.answer)) (a.ring ∙ sym b.ring)
+pub one_fresh : (n : ℕ) (s s' : Stepped) → FreshPromise n s → FreshPromise n s' → s ≡ s'
+one_fresh n s s' a b = same_stepped (one_answer s.answer s'.answer (a.answer ∙ sym b.answer)) (a.ring ∙ sym b.ring)
 
-pub one-step : (r : Ring) (send : Bool) (receive : ℕ) (t : List ℕ) (s s' : Stepped) (t' t'' : List ℕ)
+pub one_step : (r : Ring) (send : Bool) (receive : ℕ) (t : List ℕ) (s s' : Stepped) (t' t'' : List ℕ)
     → StepPromise r send receive t s t' → StepPromise r send receive t s' t'' → (s ≡ s') × (t' ≡ t'')
-one-step r send receive t s s' t' t'' a b =
-    (same-stepped (one_answer s.answer s'.answer (a.answer ∙ sym b.answer)) (a.ring ∙ sym b.ring), a.trail ∙ sym b.trail)
+one_step r send receive t s s' t' t'' a b =
+    (same_stepped (one_answer s.answer s'.answer (a.answer ∙ sym b.answer)) (a.ring ∙ sym b.ring), a.trail ∙ sym b.trail)
 
-pub one-judged : (r : Ring) (j j' : Judged) → VerdictPromise r j → VerdictPromise r j' → j ≡ j'
-one-judged r j j' a b =
-    ap₂ (λ (v : Verdict) (x : Ring). record { verdict = v; ring = x }) (one-verdict j.verdict j'.verdict (a.verdict ∙ sym b.verdict)) (a.ring ∙ sym b.ring)
+pub one_judged : (r : Ring) (j j' : Judged) → VerdictPromise r j → VerdictPromise r j' → j ≡ j'
+one_judged r j j' a b =
+    ap₂ (λ (v : Verdict) (x : Ring). record { verdict = v; ring = x }) (one_verdict j.verdict j'.verdict (a.verdict ∙ sym b.verdict)) (a.ring ∙ sym b.ring)

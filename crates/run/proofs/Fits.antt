@@ -12,7 +12,7 @@ use Rattle.limits.specs.declared.Refusal.{Refusal}
 use Rattle.ring.specs.Ring.{zero_ring}
 use Rattle.trail.specs.Trail.{width}
 use Rattle.ring.specs.declared.Ring.{Ring}
-use Rattle.trail.proofs.RecordLaws.{room-bytes}
+use Rattle.trail.proofs.RecordLaws.{room_bytes}
 use Rattle.steps.specs.Run.{start}
 use Rattle.steps.proofs.Reached.{Stands, reached_stands, run_reached}
 use Rattle.sheet.specs.Good.{GoodSheet}
@@ -21,8 +21,8 @@ use Rattle.sheet.specs.declared.Sheet.{Sheet}
 use Rattle.run.specs.Outcome.{refused, Result}
 use Rattle.run.specs.Marks.{marks_at}
 use Rattle.run.specs.Run.{run_sheet, run_of}
-use Rattle.run.proofs.Reading.{read_is, run-offence}
-use Rattle.run.proofs.Story.{bench_at, run-story}
+use Rattle.run.proofs.Reading.{read_is, run_offence}
+use Rattle.run.proofs.Story.{bench_at, run_story}
 
 -- ---- what is said
 
@@ -34,33 +34,33 @@ pub record Fits (x : Result) : Type 0 where
 -- ---- the last ring of a run
 
 module _ (sheet : Sheet) (good : GoodSheet sheet) (t : List ℕ) where
-  pub last-stands : let s = run-story sheet t in Stands sheet.n (length t) (bench_at sheet t s.steps)
-  last-stands =
-      let s = run-story sheet t in
+  pub last_stands : let s = run_story sheet t in Stands sheet.n (length t) (bench_at sheet t s.steps)
+  last_stands =
+      let s = run_story sheet t in
       reached_stands sheet.n t good.seats.0 good.seats.1 (run_reached (tab s.steps (marks_at sheet)) start)
 
-  sheet-fits : Fits (run_sheet sheet t)
-  sheet-fits =
-      let s = run-story sheet t in
-      let w = last-stands in
+  sheet_fits : Fits (run_sheet sheet t)
+  sheet_fits =
+      let s = run_story sheet t in
+      let w = last_stands in
       let v = w.valid in
       let n = ap (λ (r : Ring). r.n) s.ring in
       let k = ap (λ (r : Ring). r.records) s.ring in
       let l = ap length s.written ∙ w.kept in
       let f = v.fits in
       let m = v.most in
-      record { seats = omega arith; few = omega arith; bytes = omega (arith, room-bytes _ (length t) f) }
+      record { seats = omega arith; few = omega arith; bytes = omega (arith, room_bytes _ (length t) f) }
 
-zero-counts : (zero_ring.n ≡ 0) × (zero_ring.records ≡ 0)
+zero_counts : (zero_ring.n ≡ 0) × (zero_ring.records ≡ 0)
 unfolding zero_ring
-zero-counts = (refl, refl)
+zero_counts = (refl, refl)
 
 pub run_fits : (bytes t : List ℕ) → Fits (run_of bytes t)
 run_fits bytes t =
     ⊎_elim
-    (λ r. subst Fits (sym (r.2 t)) (sheet-fits r.0 r.1 t))
-    (λ r. subst Fits (sym (run-offence bytes t r.2)) (none r.0 r.1))
+    (λ r. subst Fits (sym (r.2 t)) (sheet_fits r.0 r.1 t))
+    (λ r. subst Fits (sym (run_offence bytes t r.2)) (none r.0 r.1))
     (read_is bytes)
   where
     none : (why : Refusal) (place : ℕ) → Fits (record { outcome = refused (number_of why) place; ring = zero_ring; modules = no_sheet.modules; trail = t })
-    none why place = let z = zero-counts in record { seats = omega arith; few = omega arith; bytes = omega arith }
+    none why place = let z = zero_counts in record { seats = omega arith; few = omega arith; bytes = omega arith }

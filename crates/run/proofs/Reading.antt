@@ -14,7 +14,7 @@ use Rattle.sheet.specs.Sheets.{no_sheet, sheet_in, read_tells, read_told, sheet_
 use Rattle.sheet.specs.declared.Sheet.{Sheet}
 use Rattle.sheet.specs.declared.Reading.{Reading}
 use Rattle.sheet.specs.declared.ReadAnswer.TheVariants.{Read, Refused}
-use Rattle.sheet.proofs.Good.{read-good}
+use Rattle.sheet.proofs.Good.{read_good}
 use Rattle.run.specs.Outcome.{refused, Result}
 use Rattle.run.specs.Run.{ends, run_sheet, run_of, RunPromise}
 use Rattle.run.specs.Inside.{Ended, Leaves}
@@ -23,14 +23,14 @@ use Rattle.run.proofs.Running.{bench, leaves}
 
 -- ---- the run by what the bytes are read as
 
-pub run-read : (bytes t : List ℕ) {sheet : Sheet} {end : ℕ} → sheet_in bytes ≡ found sheet end → run_of bytes t ≡ run_sheet sheet t
+pub run_read : (bytes t : List ℕ) {sheet : Sheet} {end : ℕ} → sheet_in bytes ≡ found sheet end → run_of bytes t ≡ run_sheet sheet t
 unfolding run_of
-run-read bytes t e = rw e
+run_read bytes t e = rw e
 
-pub run-offence : (bytes t : List ℕ) {why : Refusal} {place : ℕ} → sheet_in bytes ≡ offence why place
+pub run_offence : (bytes t : List ℕ) {why : Refusal} {place : ℕ} → sheet_in bytes ≡ offence why place
     → run_of bytes t ≡ ends no_sheet (bench zero_ring t) (refused (number_of why) place)
 unfolding run_of
-run-offence bytes t e = rw e
+run_offence bytes t e = rw e
 
 pub keeps : (bytes t : List ℕ) (x : Ran) (t' : List ℕ) → Leaves (run_of bytes t) x t' → RunPromise bytes t x t'
 keeps bytes t x t' l = record { answer = l.answer; ring = l.ring; modules = l.modules; trail = l.trail }
@@ -42,7 +42,7 @@ read_is bytes = go (sheet_in bytes) refl
   where
     go : (f : Found Sheet) → sheet_in bytes ≡ f
         → ((sheet : Sheet) × GoodSheet sheet × ((t : List ℕ) → run_of bytes t ≡ run_sheet sheet t)) ⊎ ((why : Refusal) × (place : ℕ) × (sheet_in bytes ≡ offence why place))
-    go (found sheet end) e = inl (sheet, read-good bytes sheet end e, λ t. run-read bytes t e)
+    go (found sheet end) e = inl (sheet, read_good bytes sheet end e, λ t. run_read bytes t e)
     go (offence why place) e = inr (why, place, e)
 
 -- ---- by the reader's answer
@@ -56,13 +56,13 @@ module _ (bytes : List ℕ) (r : Reading) (p : ReadPromise bytes r) where
       go (offence why place) q a s = not_done (sym a ∙ ap read_tells e)
 
   -- a sheet that is read is run
-  pub keeps-read : (t : List ℕ) (x : Ran) (t' : List ℕ) → r.answer ≡ Read → Leaves (run_sheet r.sheet t) x t' → RunPromise bytes t x t'
-  keeps-read t x t' e l = keeps bytes t x t' (subst (λ (y : Result). Leaves y x t') (sym (run-read bytes t (read_found e).1)) l)
+  pub keeps_read : (t : List ℕ) (x : Ran) (t' : List ℕ) → r.answer ≡ Read → Leaves (run_sheet r.sheet t) x t' → RunPromise bytes t x t'
+  keeps_read t x t' e l = keeps bytes t x t' (subst (λ (y : Result). Leaves y x t') (sym (run_read bytes t (read_found e).1)) l)
 
   -- a refused one is not
-  pub keeps-refused : (t : List ℕ) (why : Refusal) (place : ℕ) (ring : Ring) (x : Ran) → r.answer ≡ Refused why place → ring ≡ zero_ring
+  pub keeps_refused : (t : List ℕ) (why : Refusal) (place : ℕ) (ring : Ring) (x : Ran) → r.answer ≡ Refused why place → ring ≡ zero_ring
       → Ended (refused (number_of why) place) ring r.sheet.modules x → RunPromise bytes t x t
-  keeps-refused t why place ring x e z l = go (sheet_in bytes) refl (sym (ap read_tells e) ∙ p.answer) p.sheet
+  keeps_refused t why place ring x e z l = go (sheet_in bytes) refl (sym (ap read_tells e) ∙ p.answer) p.sheet
     where
       go : (f : Found Sheet) → sheet_in bytes ≡ f → read_tells (Refused why place) ≡ read_told f → r.sheet ≡ sheet_of f → RunPromise bytes t x t
       go (found sheet end) q a s = not_done a
@@ -70,4 +70,4 @@ module _ (bytes : List ℕ) (r : Reading) (p : ReadPromise bytes r) where
           let n : number_of why ≡ number_of why' = cc in
           let m : place ≡ place' = cc in
           let o : Ended (refused (number_of why') place') zero_ring no_sheet.modules x = record { answer = l.answer ∙ ap₂ refused n m; ring = l.ring ∙ z; modules = l.modules ∙ ap (λ (y : Sheet). y.modules) s } in
-          keeps bytes t x t (leaves no_sheet zero_ring t (refused (number_of why') place') x o (run-offence bytes t q))
+          keeps bytes t x t (leaves no_sheet zero_ring t (refused (number_of why') place') x o (run_offence bytes t q))

@@ -16,7 +16,7 @@ use Rattle.ring.specs.Promise.{FreshPromise, StepPromise}
 use Rattle.ring.specs.declared.Ring.{Ring}
 use Rattle.ring.specs.declared.Stepped.{Stepped}
 use Rattle.steps.specs.Run.{Marks, Bench, told_on, step_on, fresh_bench}
-use Rattle.steps.proofs.Reached.{fresh-n, fresh-time, step_after, step-refused, step-length}
+use Rattle.steps.proofs.Reached.{fresh_n, fresh_time, step_after, step_refused, step_length}
 use Rattle.sheet.specs.Good.{mark_of, heard_in, GoodSheet}
 use Rattle.sheet.specs.declared.Sheet.{Sheet}
 use Rattle.run.specs.Marks.{owner_at, marks_at}
@@ -26,7 +26,7 @@ use Rattle.run.specs.Inside.{none_gathered, with_mark, slot_over, given_by, Ende
 use Rattle.run.specs.declared.Ran.{Ran}
 use Rattle.run.specs.declared.marks.Gathered.{Gathered}
 use Rattle.run.specs.declared.marks.SlotMarks.{SlotMarks}
-use Rattle.run.proofs.Gathering.{Gathers, Whole, none_yet, mark-more, next-slot, send-given, receive-given}
+use Rattle.run.proofs.Gathering.{Gathers, Whole, none_yet, mark_more, next_slot, send_given, receive_given}
 
 abbrev pub bench : Ring → List ℕ → Bench
 bench ring trail = record { ring = ring; trail = trail }
@@ -45,18 +45,18 @@ unfolding run_from
 run_ends sheet b = refl
 
 module _ (sheet : Sheet) (b : Bench) (left : ℕ) where
-  pub run-differs : eqb (spoken_on (marks_on sheet b) b) (heard_on sheet b) ≡ false → run_from (suc left) sheet b ≡ judged sheet b (differs b.ring.time)
+  pub run_differs : eqb (spoken_on (marks_on sheet b) b) (heard_on sheet b) ≡ false → run_from (suc left) sheet b ≡ judged sheet b (differs b.ring.time)
   unfolding run_from
-  run-differs e = rw e
+  run_differs e = rw e
 
   module _ (same : eqb (spoken_on (marks_on sheet b) b) (heard_on sheet b) ≡ true) where
-    pub run-stops : {number place : ℕ} → told_on (marks_on sheet b) b ≡ limits.refused number place → run_from (suc left) sheet b ≡ ends sheet b (refused number place)
+    pub run_stops : {number place : ℕ} → told_on (marks_on sheet b) b ≡ limits.refused number place → run_from (suc left) sheet b ≡ ends sheet b (refused number place)
     unfolding run_from
-    run-stops e = rw (same, e)
+    run_stops e = rw (same, e)
 
-    pub run-goes-on : told_on (marks_on sheet b) b ≡ limits.done → run_from (suc left) sheet b ≡ run_from left sheet (step_on (marks_on sheet b) b)
+    pub run_goes_on : told_on (marks_on sheet b) b ≡ limits.done → run_from (suc left) sheet b ≡ run_from left sheet (step_on (marks_on sheet b) b)
     unfolding run_from
-    run-goes-on e = rw (same, e)
+    run_goes_on e = rw (same, e)
 
 -- ---- the loop over the slots
 
@@ -69,13 +69,13 @@ pub record Going (sheet : Sheet) (whole : Result) (trail : List ℕ) (r : Ring) 
   pub same : (left : ℕ) → left + at ≡ sheet.slot_count → run_from left sheet (bench r trail) ≡ whole
 
 -- a good sheet has a fresh ring
-pub fresh-given : (sheet : Sheet) → GoodSheet sheet → (s : Stepped) → FreshPromise sheet.n s → s.ring ≡ fresh_ring sheet.n
-fresh-given sheet good s p = p.ring ∙ rw (le-leb 2 sheet.n good.seats.0, le-leb sheet.n 32 good.seats.1)
+pub fresh_given : (sheet : Sheet) → GoodSheet sheet → (s : Stepped) → FreshPromise sheet.n s → s.ring ≡ fresh_ring sheet.n
+fresh_given sheet good s p = p.ring ∙ rw (le-leb 2 sheet.n good.seats.0, le-leb sheet.n 32 good.seats.1)
 
 pub going_start : (sheet : Sheet) (t : List ℕ) → Going sheet (run_sheet sheet t) t (fresh_ring sheet.n) none_gathered 0
 going_start sheet t = record {
-  seats = fresh-n sheet.n;
-  time = fresh-time sheet.n;
+  seats = fresh_n sheet.n;
+  time = fresh_time sheet.n;
   within = omega arith;
   gathers = none_yet sheet;
   same = λ left e. let q : left ≡ sheet.slot_count = omega arith in ap (λ (k : ℕ). run_from k sheet (fresh_bench sheet.n t)) q;
@@ -89,7 +89,7 @@ module _ {sheet : Sheet} {all : Result} {trail : List ℕ} {r : Ring} {g : Gathe
     seats = go.seats;
     time = go.time;
     within = go.within;
-    gathers = mark-more sheet good at g go.gathers l e;
+    gathers = mark_more sheet good at g go.gathers l e;
     same = go.same;
   }
 
@@ -105,16 +105,16 @@ module _ {sheet : Sheet} {all : Result} {trail : List ℕ} {r : Ring} {g : Gathe
     given = given_by g (owner_at sheet at)
 
     -- the marks gathered are the slot's
-    marks-given : record { send = given.send; receive = given.receive } ≡ marks_on sheet b
-    marks-given =
-        let s = send-given sheet good at g go.gathers whole in
-        let q = receive-given sheet good at g go.gathers whole in
+    marks_given : record { send = given.send; receive = given.receive } ≡ marks_on sheet b
+    marks_given =
+        let s = send_given sheet good at g go.gathers whole in
+        let q = receive_given sheet good at g go.gathers whole in
         ap₂ (λ (x : Bool) (y : ℕ). record { send = x; receive = y }) s q ∙ ap (marks_at sheet) (sym go.time)
 
-    pub spoken-given : heard_as (spoken_by (owner_at sheet at) (seat_of r (owner_at sheet at)).set (seat_of r (owner_at sheet at)).ack given.send) ≡ spoken_on (marks_on sheet b) b
-    spoken-given =
+    pub spoken_given : heard_as (spoken_by (owner_at sheet at) (seat_of r (owner_at sheet at)).set (seat_of r (owner_at sheet at)).ack given.send) ≡ spoken_on (marks_on sheet b) b
+    spoken_given =
         let o : owner_at sheet at ≡ owner_of r = ap₂ (λ (x y : ℕ). x % y) (sym go.time) (sym go.seats) in
-        ap (λ (k : ℕ). heard_as (spoken_by k (seat_of r k).set (seat_of r k).ack given.send)) o ∙ ap (λ (m : Marks). spoken_on m b) marks-given
+        ap (λ (k : ℕ). heard_as (spoken_by k (seat_of r k).set (seat_of r k).ack given.send)) o ∙ ap (λ (m : Marks). spoken_on m b) marks_given
 
     left : ℕ
     left = sheet.slot_count - (at + 1)
@@ -130,7 +130,7 @@ module _ {sheet : Sheet} {all : Result} {trail : List ℕ} {r : Ring} {g : Gathe
 
     pub going_differs : (spoken_on (marks_on sheet b) b ≡ heard_in sheet at → ⊥) → all ≡ judged sheet b (differs at)
     going_differs n =
-        sym from ∙ run-differs sheet b left (ne_eqb (spoken_on (marks_on sheet b) b) (heard_on sheet b) (λ e. n (e ∙ sym line)))
+        sym from ∙ run_differs sheet b left (ne_eqb (spoken_on (marks_on sheet b) b) (heard_on sheet b) (λ e. n (e ∙ sym line)))
         ∙ ap (λ (t : ℕ). judged sheet b (differs t)) go.time
 
     module _ (heard : spoken_on (marks_on sheet b) b ≡ heard_in sheet at) {s : Stepped} {t' : List ℕ}
@@ -139,19 +139,19 @@ module _ {sheet : Sheet} {all : Result} {trail : List ℕ} {r : Ring} {g : Gathe
       alike = eq-eqb (spoken_on (marks_on sheet b) b) (heard_on sheet b) (heard ∙ line)
 
       answered : step_tells s.answer ≡ told_on (marks_on sheet b) b
-      answered = p.answer ∙ ap (λ (m : Marks). told_on m b) marks-given
+      answered = p.answer ∙ ap (λ (m : Marks). told_on m b) marks_given
 
       stepped : bench s.ring t' ≡ step_on (marks_on sheet b) b
-      stepped = ap₂ (λ (x : Ring) (y : List ℕ). bench x y) p.ring p.trail ∙ ap (λ (m : Marks). step_on m b) marks-given
+      stepped = ap₂ (λ (x : Ring) (y : List ℕ). bench x y) p.ring p.trail ∙ ap (λ (m : Marks). step_on m b) marks_given
 
       pub going_length : length t' ≡ length trail
-      going_length = ap (λ (x : Bench). length x.trail) stepped ∙ step-length (marks_on sheet b) b
+      going_length = ap (λ (x : Bench). length x.trail) stepped ∙ step_length (marks_on sheet b) b
 
       pub going_stops : {number place : ℕ} → step_tells s.answer ≡ limits.refused number place → all ≡ ends sheet (bench s.ring t') (refused number place)
       going_stops {number} {place} e =
           let q = sym answered ∙ e in
-          sym from ∙ run-stops sheet b left alike q
-          ∙ ap (λ (x : Bench). ends sheet x (refused number place)) (sym (stepped ∙ step-refused (marks_on sheet b) b q))
+          sym from ∙ run_stops sheet b left alike q
+          ∙ ap (λ (x : Bench). ends sheet x (refused number place)) (sym (stepped ∙ step_refused (marks_on sheet b) b q))
 
       pub going_on : step_tells s.answer ≡ limits.done → Going sheet all t' s.ring (slot_over g) (at + 1)
       unfolding left
@@ -164,12 +164,12 @@ module _ {sheet : Sheet} {all : Result} {trail : List ℕ} {r : Ring} {g : Gathe
             seats = n ∙ go.seats;
             time = t ∙ ap (λ (k : ℕ). k + 1) go.time;
             within = omega arith;
-            gathers = next-slot sheet good at g go.gathers whole;
+            gathers = next_slot sheet good at g go.gathers whole;
             same = λ more h.
                 let k : more ≡ left = omega arith in
                 ap (run_from more sheet) stepped
                 ∙ ap (λ (x : ℕ). run_from x sheet (step_on (marks_on sheet b) b)) k
-                ∙ sym (run-goes-on sheet b left alike q)
+                ∙ sym (run_goes_on sheet b left alike q)
                 ∙ from;
           }
 

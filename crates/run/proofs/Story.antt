@@ -14,14 +14,14 @@ use Rattle.lists.proofs.Tests.{both}
 use Rattle.ring.specs.Refusals.{verdict_found}
 use Rattle.steps.specs.Run.{Bench, told_on, step_on, fresh_bench, run_on}
 use Rattle.limits.proofs.Refusals.{told_is}
-use Rattle.steps.proofs.Reached.{fresh-time, step_after, run-append}
+use Rattle.steps.proofs.Reached.{fresh_time, step_after, run-append}
 use Rattle.sheet.specs.Good.{heard_in}
 use Rattle.sheet.specs.declared.Sheet.{Sheet}
 use Rattle.run.specs.Marks.{marks_at}
 pub use Rattle.run.specs.Along.{bench_at}
 use Rattle.run.specs.Outcome.{agrees, differs, Outcome, ran, refused, Result}
 use Rattle.run.specs.Run.{spoken_on, judged, run_from, run_sheet}
-use Rattle.run.proofs.Running.{marks_on, heard_on, run_ends, run-differs, run-stops, run-goes-on}
+use Rattle.run.proofs.Running.{marks_on, heard_on, run_ends, run_differs, run_stops, run_goes_on}
 
 -- ---- what is said
 
@@ -41,8 +41,8 @@ pub data Ending (sheet : Sheet) (trail : List ℕ) (k : ℕ) : Outcome → Type 
 pub record Story (sheet : Sheet) (trail : List ℕ) (x : Result) : Type 0 where
   pub steps : ℕ
   pub time : (bench_at sheet trail steps).ring.time ≡ steps
-  pub taken-all : (i : ℕ) → i < steps → told_on (marks_at sheet i) (bench_at sheet trail i) ≡ limits.done
-  pub agreed-all : (i : ℕ) → i < steps → Agrees sheet trail i
+  pub taken_all : (i : ℕ) → i < steps → told_on (marks_at sheet i) (bench_at sheet trail i) ≡ limits.done
+  pub agreed_all : (i : ℕ) → i < steps → Agrees sheet trail i
   pub ending : Ending sheet trail steps x.outcome
   pub ring : x.ring ≡ (bench_at sheet trail steps).ring
   pub written : x.trail ≡ (bench_at sheet trail steps).trail
@@ -51,9 +51,9 @@ pub record Story (sheet : Sheet) (trail : List ℕ) (x : Result) : Type 0 where
 -- ---- one slot more
 
 module _ (sheet : Sheet) (trail : List ℕ) where
-  bench-more : (k : ℕ) → bench_at sheet trail (suc k) ≡ step_on (marks_at sheet k) (bench_at sheet trail k)
+  bench_more : (k : ℕ) → bench_at sheet trail (suc k) ≡ step_on (marks_at sheet k) (bench_at sheet trail k)
   unfolding run_on
-  bench-more k = run-append (tab k (marks_at sheet)) (marks_at sheet k ∷ []) (fresh_bench sheet.n trail)
+  bench_more k = run-append (tab k (marks_at sheet)) (marks_at sheet k ∷ []) (fresh_bench sheet.n trail)
 
   -- the first k slots
   record Upto (k : ℕ) : Type 0 where
@@ -63,7 +63,7 @@ module _ (sheet : Sheet) (trail : List ℕ) where
 
   upto_more : (k : ℕ) → Upto k → told_on (marks_at sheet k) (bench_at sheet trail k) ≡ limits.done → Agrees sheet trail k → Upto (suc k)
   upto_more k u t a =
-      let e = ap (λ (b : Bench). b.ring.time) (bench-more k ∙ step_after (marks_at sheet k) (bench_at sheet trail k) t) in
+      let e = ap (λ (b : Bench). b.ring.time) (bench_more k ∙ step_after (marks_at sheet k) (bench_at sheet trail k) t) in
       let n = u.time in
       record {
         time = omega arith;
@@ -76,7 +76,7 @@ module _ (sheet : Sheet) (trail : List ℕ) where
   tells : (left k : ℕ) → left + k ≡ sheet.slot_count → Upto k → Story sheet trail (run_from left sheet (bench_at sheet trail k))
   tells zero k e u =
       subst (Story sheet trail) (sym (run_ends sheet (bench_at sheet trail k)))
-      (record { steps = k; time = u.time; taken-all = u.took; agreed-all = u.agree; ending = agreed (omega arith); ring = refl; written = refl; modules = refl })
+      (record { steps = k; time = u.time; taken_all = u.took; agreed_all = u.agree; ending = agreed (omega arith); ring = refl; written = refl; modules = refl })
   tells (suc left) k e u =
       let b = bench_at sheet trail k in
       let same : spoken_on (marks_on sheet b) b ≡ spoken_on (marks_at sheet k) b = ap (λ (t : ℕ). spoken_on (marks_at sheet t) b) u.time in
@@ -87,20 +87,20 @@ module _ (sheet : Sheet) (trail : List ℕ) where
       let a : Agrees sheet trail k = sym same ∙ eqb-true _ _ p ∙ line in
       ⊎_elim
       (λ t.
-      let next : step_on (marks_on sheet b) b ≡ bench_at sheet trail (suc k) = ap (λ (x : ℕ). step_on (marks_at sheet x) b) u.time ∙ sym (bench-more k) in
-      subst (Story sheet trail) (sym (run-goes-on sheet b left p t ∙ ap (run_from left sheet) next))
+      let next : step_on (marks_on sheet b) b ≡ bench_at sheet trail (suc k) = ap (λ (x : ℕ). step_on (marks_at sheet x) b) u.time ∙ sym (bench_more k) in
+      subst (Story sheet trail) (sym (run_goes_on sheet b left p t ∙ ap (run_from left sheet) next))
       (tells left (suc k) (omega arith) (upto_more k u (sym answer ∙ t) a)))
-      (λ t. subst (Story sheet trail) (sym (run-stops sheet b left p t.2))
-      (record { steps = k; time = u.time; taken-all = u.took; agreed-all = u.agree; ending = stopped (omega arith) a (sym answer ∙ t.2); ring = refl; written = refl; modules = refl }))
+      (λ t. subst (Story sheet trail) (sym (run_stops sheet b left p t.2))
+      (record { steps = k; time = u.time; taken_all = u.took; agreed_all = u.agree; ending = stopped (omega arith) a (sym answer ∙ t.2); ring = refl; written = refl; modules = refl }))
       (told_is (told_on (marks_on sheet b) b)))
       (λ p.
       let n : Agrees sheet trail k → ⊥ = λ a. eqb-false _ _ p (same ∙ a ∙ sym line) in
-      subst (Story sheet trail) (sym (run-differs sheet b left p ∙ ap (λ (t : ℕ). judged sheet b (differs t)) u.time))
-      (record { steps = k; time = u.time; taken-all = u.took; agreed-all = u.agree; ending = differed (omega arith) n; ring = refl; written = refl; modules = refl }))
+      subst (Story sheet trail) (sym (run_differs sheet b left p ∙ ap (λ (t : ℕ). judged sheet b (differs t)) u.time))
+      (record { steps = k; time = u.time; taken_all = u.took; agreed_all = u.agree; ending = differed (omega arith) n; ring = refl; written = refl; modules = refl }))
       (both (eqb (spoken_on (marks_on sheet b) b) (heard_on sheet b)))
 
   -- ---- the whole run
 
-  pub run-story : Story sheet trail (run_sheet sheet trail)
+  pub run_story : Story sheet trail (run_sheet sheet trail)
   unfolding run_on
-  run-story = tells sheet.slot_count zero (omega arith) (record { time = fresh-time sheet.n; took = λ i l. absurd (omega arith); agree = λ i l. absurd (omega arith) })
+  run_story = tells sheet.slot_count zero (omega arith) (record { time = fresh_time sheet.n; took = λ i l. absurd (omega arith); agree = λ i l. absurd (omega arith) })

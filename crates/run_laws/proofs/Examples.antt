@@ -77,6 +77,6 @@ RefusedRun = let x = run_of ring (7 ∷ []) in (x.outcome ≡ refused 1 14) × (
 
 -- ---- all computed
 
-small-runs : PrintedRun × StoppedRun × FullRun × DarkRun × SteadyRun × RefusedRun
+small_runs : PrintedRun × StoppedRun × FullRun × DarkRun × SteadyRun × RefusedRun
 unfolding ring missed darkened unmarked printed steady third run_of run_from marks_at sheet_in no_modules no_marks no_slots lines_at module_line mark_line slot_line is_new line_at ended end_at number_at digits_at byte_at fields_at spaced_at mark_offence step_told ring_of trail_of verdict_found is_ring every_seat_stands fresh_ring zero_ring turn_of terms_hold first_failing
-small-runs = ((refl, refl, refl, refl, refl), (refl, refl, refl), (refl, refl, refl), (refl, refl, refl), (refl, refl, refl, refl), (refl, refl, refl, refl))
+small_runs = ((refl, refl, refl, refl, refl), (refl, refl, refl), (refl, refl, refl), (refl, refl, refl), (refl, refl, refl, refl), (refl, refl, refl, refl))

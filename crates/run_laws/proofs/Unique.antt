@@ -6,7 +6,7 @@ use native.Mathlib.Omega.{arith}
 use Rattle.limits.proofs.Refusals.{one_reason}
 use Rattle.limits.specs.Refusals.{number_of}
 use Rattle.ring.specs.Refusals.{found}
-use Rattle.ring.proofs.Unique.{one-verdict}
+use Rattle.ring.proofs.Unique.{one_verdict}
 use Rattle.run.specs.Outcome.{heard, ran, refused, said}
 use Rattle.run.specs.Run.{run_of, RunPromise}
 use Rattle.run.specs.declared.Bus.{Bus}
@@ -27,7 +27,7 @@ module _ (bytes t : List ℕ) where
       let h : ran (heard bus) (found v) ≡ ran (heard bus') (found w) = p ∙ sym q in
       let e : heard bus ≡ heard bus' = cc in
       let f : found v ≡ found w = cc in
-      ap₂ Ran (one_bus bus bus' e) (one-verdict v w f)
+      ap₂ Ran (one_bus bus bus' e) (one_verdict v w f)
   one_answer (Ran bus v) (Refused y k) p q = let z : ◌≡◌ {A = ℕ} 0 1 = cc in absurd (omega arith)
   one_answer (Refused x j) (Ran bus w) p q = let z : ◌≡◌ {A = ℕ} 0 1 = cc in absurd (omega arith)
   one_answer (Refused x j) (Refused y k) p q =
@@ -36,8 +36,8 @@ module _ (bytes t : List ℕ) where
       let m : j ≡ k = cc in
       ap₂ Refused (one_reason x y n) m
 
-  pub one-run : (x y : value.Ran) (t' t'' : List ℕ) → RunPromise bytes t x t' → RunPromise bytes t y t'' → (x ≡ y) × (t' ≡ t'')
-  one-run x y t' t'' p q =
+  pub one_run : (x y : value.Ran) (t' t'' : List ℕ) → RunPromise bytes t x t' → RunPromise bytes t y t'' → (x ≡ y) × (t' ≡ t'')
+  one_run x y t' t'' p q =
       let a = one_answer x.answer y.answer p.answer q.answer in
       let r = p.ring ∙ sym q.ring in
       let m = p.modules ∙ sym q.modules in

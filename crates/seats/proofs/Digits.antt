@@ -11,22 +11,22 @@ use lib.Count.{ones, ones_in, ones_step, ones-ones}
 
 -- ---- the digits, from the lowest up
 
-pub digit-zero : (s : ℕ) → s / 2 ^ 0 % 2 ≡ s % 2
-digit-zero s = ap (λ (x : ℕ). x % 2) (div-one s)
+pub digit_zero : (s : ℕ) → s / 2 ^ 0 % 2 ≡ s % 2
+digit_zero s = ap (λ (x : ℕ). x % 2) (div-one s)
 
 pub digit_suc : (s j : ℕ) → s / 2 ^ suc j % 2 ≡ s / 2 / 2 ^ j % 2
 digit_suc s j = ap (λ (x : ℕ). x % 2) (sym (shr-shr s 1 j ∙ ap (λ (x : ℕ). s / 2 ^ x) (one-add j)))
 
 -- digits past the number's length are 0
-pub digit-past : (s n j : ℕ) → s < 2 ^ n → n ≤ j → s / 2 ^ j % 2 ≡ 0
-digit-past s n j l h = ap (λ (x : ℕ). x % 2) (div-eq_of_lt (omega (arith, pow_mono {i = n} {j = j} h)))
+pub digit_past : (s n j : ℕ) → s < 2 ^ n → n ≤ j → s / 2 ^ j % 2 ≡ 0
+digit_past s n j l h = ap (λ (x : ℕ). x % 2) (div-eq_of_lt (omega (arith, pow_mono {i = n} {j = j} h)))
 
 -- numbers below 2 ^ n with the same n digits are the same
 pub same_digits : (n s t : ℕ) → s < 2 ^ n → t < 2 ^ n → ((j : ℕ) → j < n → s / 2 ^ j % 2 ≡ t / 2 ^ j % 2) → s ≡ t
 same_digits zero s t hs ht f = omega arith
 same_digits (suc n) s t hs ht f =
     let p = pow-suc 2 n in
-    let b = sym (digit-zero s) ∙ f zero (omega arith) ∙ digit-zero t in
+    let b = sym (digit_zero s) ∙ f zero (omega arith) ∙ digit_zero t in
     let r = same_digits n (s / 2) (t / 2) (omega arith) (omega arith) (λ j h. sym (digit_suc s j) ∙ f (suc j) (omega arith) ∙ digit_suc t j) in
     omega arith
 
@@ -51,7 +51,7 @@ ones_in_lem (suc k) s h = ones_step s ∙ ap (λ (x : ℕ). s % 2 + x) (ones_in_
 -- ---- a digit that is 1 is taken away
 
 pub digit_le : (s j : ℕ) → s / 2 ^ j % 2 ≡ 1 → 2 ^ j ≤ s
-digit_le s zero e = let h = digit-zero s in omega arith
+digit_le s zero e = let h = digit_zero s in omega arith
 digit_le s (suc j) e =
     let h = digit_le (s / 2) j (sym (digit_suc s j) ∙ e) in
     rw pow-suc (omega arith)
@@ -63,18 +63,18 @@ pub odd_less : (s j : ℕ) → 2 ^ suc j ≤ s → (s - 2 ^ suc j) % 2 ≡ s % 2
 odd_less s j h = let e = pow-suc 2 j in omega arith
 
 pub less_same : (s j : ℕ) → s / 2 ^ j % 2 ≡ 1 → (s - 2 ^ j) / 2 ^ j % 2 ≡ 0
-less_same s zero e = let h = digit-zero s in let g = digit-zero (s - 1) in omega arith
+less_same s zero e = let h = digit_zero s in let g = digit_zero (s - 1) in omega arith
 less_same s (suc j) e =
     digit_suc (s - 2 ^ suc j) j ∙ ap (λ (x : ℕ). x / 2 ^ j % 2) (half_less s j) ∙ less_same (s / 2) j (sym (digit_suc s j) ∙ e)
 
 pub less_other : (s j i : ℕ) → s / 2 ^ j % 2 ≡ 1 → (i ≡ j → ⊥) → (s - 2 ^ j) / 2 ^ i % 2 ≡ s / 2 ^ i % 2
 less_other s zero zero e n = absurd (n refl)
 less_other s zero (suc i) e n =
-    let h = digit-zero s in
+    let h = digit_zero s in
     let g : (s - 1) / 2 ≡ s / 2 = omega arith in
     digit_suc (s - 1) i ∙ ap (λ (x : ℕ). x / 2 ^ i % 2) g ∙ sym (digit_suc s i)
 less_other s (suc j) zero e n =
-    digit-zero (s - 2 ^ suc j) ∙ odd_less s j (digit_le s (suc j) e) ∙ sym (digit-zero s)
+    digit_zero (s - 2 ^ suc j) ∙ odd_less s j (digit_le s (suc j) e) ∙ sym (digit_zero s)
 less_other s (suc j) (suc i) e n =
     digit_suc (s - 2 ^ suc j) i ∙ ap (λ (x : ℕ). x / 2 ^ i % 2) (half_less s j)
     ∙ less_other (s / 2) j i (sym (digit_suc s j) ∙ e) (λ q. n (ap suc q)) ∙ sym (digit_suc s i)
@@ -83,7 +83,7 @@ pub less_count : (k s j : ℕ) → j < k → s / 2 ^ j % 2 ≡ 1 → ones_in k (
 unfolding ones_in
 less_count zero s j h e = omega arith
 less_count (suc k) s zero h e =
-    let b = digit-zero s in
+    let b = digit_zero s in
     let g : (s - 1) / 2 ≡ s / 2 = omega arith in
     rw g (omega arith)
 less_count (suc k) s (suc j) h e =
@@ -96,8 +96,8 @@ less_count (suc k) s (suc j) h e =
 odd_full : (n : ℕ) → (2 ^ suc n - 1) % 2 ≡ 1
 odd_full n = let f = pow-suc 2 n in let g = pow_pos n in omega arith
 
-pub full-digit : (n p : ℕ) → p < n → (2 ^ n - 1) / 2 ^ p % 2 ≡ 1
-full-digit n p l =
+pub full_digit : (n p : ℕ) → p < n → (2 ^ n - 1) / 2 ^ p % 2 ≡ 1
+full_digit n p l =
     let m = n - suc p in
     let e : n ≡ suc m + p = omega arith in
     ap (λ (x : ℕ). (2 ^ x - 1) / 2 ^ p % 2) e
@@ -105,5 +105,5 @@ full-digit n p l =
     ∙ ap (λ (x : ℕ). x % 2) (high (2 ^ suc m - 1) p (ones_lt p))
     ∙ odd_full m
 
-pub full-count : (k n : ℕ) → n ≤ k → ones_in k (2 ^ n - 1) ≡ n
-full-count k n h = sym (ones_in_lem k (2 ^ n - 1) (omega (arith, ones_lt n, pow_mono {i = n} {j = k} h))) ∙ ones-ones n
+pub full_count : (k n : ℕ) → n ≤ k → ones_in k (2 ^ n - 1) ≡ n
+full_count k n h = sym (ones_in_lem k (2 ^ n - 1) (omega (arith, ones_lt n, pow_mono {i = n} {j = k} h))) ∙ ones-ones n

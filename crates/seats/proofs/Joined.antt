@@ -13,15 +13,15 @@ use Rattle.lists.proofs.Counted.{below_last}
 use Rattle.lists.proofs.Tests.{both, and-false}
 use Rattle.seats.specs.Sets.{has_seat}
 use Rattle.seats.specs.Joined.{added, seats_with}
-use Rattle.seats.proofs.Sets.{none-past, has_one}
+use Rattle.seats.proofs.Sets.{none_past, has_one}
 
 -- ---- two sets in one
 
 digit_or : (a b j : ℕ) → bit_or a b / 2 ^ j % 2 ≡ max (a / 2 ^ j % 2) (b / 2 ^ j % 2)
 digit_or a b j = ap (λ (x : ℕ). x % 2) (or_shr a b j) ∙ let e = or_step (a / 2 ^ j) (b / 2 ^ j) in omega arith
 
-pub has-or : (a b j : ℕ) → has_seat (bit_or a b) j ≡ (has_seat a j || has_seat b j)
-has-or a b j =
+pub has_or : (a b j : ℕ) → has_seat (bit_or a b) j ≡ (has_seat a j || has_seat b j)
+has_or a b j =
     let e = digit_or a b j in
     ⊎_elim
     (λ p. let x = eqb-true (a / 2 ^ j % 2) 1 p in rw p (eq-eqb (bit_or a b / 2 ^ j % 2) 1 (omega arith)))
@@ -35,13 +35,13 @@ has-or a b j =
 
 -- ---- a seat added where that is so
 
-pub has-added : (set j : ℕ) (so : Bool) (p : ℕ) → has_seat (added set j so) p ≡ (has_seat set p || (so && eqb p j))
-has-added set j true p = has-or set (2 ^ j) p ∙ ap (λ (b : Bool). has_seat set p || b) (has_one j p)
-has-added set j false p = sym (or-false (has_seat set p))
+pub has_added : (set j : ℕ) (so : Bool) (p : ℕ) → has_seat (added set j so) p ≡ (has_seat set p || (so && eqb p j))
+has_added set j true p = has_or set (2 ^ j) p ∙ ap (λ (b : Bool). has_seat set p || b) (has_one j p)
+has_added set j false p = sym (or-false (has_seat set p))
 
-pub added-below : (n set j : ℕ) (so : Bool) → set < 2 ^ n → j < n → added set j so < 2 ^ n
-added-below n set j true l h = or_lt n set (2 ^ j) l (pow-lt h)
-added-below n set j false l h = l
+pub added_below : (n set j : ℕ) (so : Bool) → set < 2 ^ n → j < n → added set j so < 2 ^ n
+added_below n set j true l h = or_lt n set (2 ^ j) l (pow-lt h)
+added_below n set j false l h = l
 
 -- ---- the seats that pass a test
 
@@ -66,8 +66,8 @@ module _ (test : ℕ → Bool) where
   has_with (suc k) p l =
       let s = seats_with k test in
       ap (λ (x : ℕ). has_seat x p) (one_more k)
-      ∙ has-added s k (test k) p
+      ∙ has_added s k (test k) p
       ∙ ⊎_elim
       (λ h. rw (ne_eqb p k (omega arith), and-false (test k), or-false (has_seat s p)) (has_with k p h))
-      (λ e. rw (none-past s k p (with_below k) (omega arith), eq-eqb p k e, and-true (test k)) (ap test (sym e)))
+      (λ e. rw (none_past s k p (with_below k) (omega arith), eq-eqb p k e, and-true (test k)) (ap test (sym e)))
       (below_last p k l)

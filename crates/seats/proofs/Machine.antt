@@ -10,9 +10,9 @@ use lib.Bits.{bit_and, and_step, and_mask}
 use borrow.Author.Tests.{eqb-true, eqb-false, eq-eqb, ne_eqb, leb-true, leb-false}
 use Rattle.lists.proofs.Tests.{both}
 use Rattle.seats.specs.Sets.{has_seat, without_seat, full_set}
-use Rattle.seats.proofs.Digits.{digit-zero, digit_suc, digit_le, half_less, odd_less}
+use Rattle.seats.proofs.Digits.{digit_zero, digit_suc, digit_le, half_less, odd_less}
 pub use Rattle.seats.proofs.Digits.{ones_in_lem}
-use Rattle.seats.proofs.Sets.{without_is, without-none, full_is}
+use Rattle.seats.proofs.Sets.{without_is, without_none, full_is}
 
 -- 1 shifted by less than the width is the power
 pub one_shifted : (j : ℕ) → j < 32 → (1 * 2 ^ j) % 2 ^ 32 ≡ 2 ^ j
@@ -27,8 +27,8 @@ reaches s n h l =
     (both (leb n 32))
 
 -- a shift by n leaves nothing of a mask within the first n seats
-pub within-is : (s n : ℕ) → s < 2 ^ 32 → eqb (s / 2 ^ n) 0 ≡ leb s (full_set n)
-within-is s n h =
+pub within_is : (s n : ℕ) → s < 2 ^ 32 → eqb (s / 2 ^ n) 0 ≡ leb s (full_set n)
+within_is s n h =
     ⊎_elim
     (λ e. let l = leb-true s (full_set n) e in
     let p = pow_pos (min n 32) in
@@ -41,12 +41,12 @@ within-is s n h =
     (both (leb s (full_set n)))
 
 -- a removal, one digit down
-without-zero : (s : ℕ) → without_seat s 0 ≡ s / 2 * 2
-without-zero s =
-    let b = digit-zero s in
+without_zero : (s : ℕ) → without_seat s 0 ≡ s / 2 * 2
+without_zero s =
+    let b = digit_zero s in
     ⊎_elim
     (λ h. let e = eqb-true (s / 2 ^ 0 % 2) 1 h in omega (arith, without_is s 0 h))
-    (λ h. let n = eqb-false (s / 2 ^ 0 % 2) 1 h in omega (arith, without-none s 0 h))
+    (λ h. let n = eqb-false (s / 2 ^ 0 % 2) 1 h in omega (arith, without_none s 0 h))
     (both (has_seat s 0))
 
 without_suc : (s j : ℕ) → without_seat s (suc j) ≡ without_seat (s / 2) j * 2 + s % 2
@@ -58,13 +58,13 @@ without_suc s j =
     let e = half_less s j in
     let o = odd_less s j l in
     omega (arith, without_is s (suc j) h, without_is (s / 2) j (d ∙ h)))
-    (λ h. omega (arith, without-none s (suc j) h, without-none (s / 2) j (d ∙ h)))
+    (λ h. omega (arith, without_none s (suc j) h, without_none (s / 2) j (d ∙ h)))
     (both (has_seat s (suc j)))
 
 -- a mask and-ed with all digits but one
-pub and-all_but : (k s j : ℕ) → s < 2 ^ k → j < k → bit_and s ((2 ^ k - 1) - 2 ^ j) ≡ without_seat s j
-and-all_but zero s j h l = absurd (omega arith)
-and-all_but (suc k) s zero h l =
+pub and_all_but : (k s j : ℕ) → s < 2 ^ k → j < k → bit_and s ((2 ^ k - 1) - 2 ^ j) ≡ without_seat s j
+and_all_but zero s j h l = absurd (omega arith)
+and_all_but (suc k) s zero h l =
     let p = pow-suc 2 k in
     let q = pow_pos k in
     let f : ((2 ^ suc k - 1) - 1) / 2 ≡ 2 ^ k - 1 = omega arith in
@@ -73,8 +73,8 @@ and-all_but (suc k) s zero h l =
     and_step s ((2 ^ suc k - 1) - 1)
     ∙ ap₂ (λ (x y : ℕ). bit_and (s / 2) x * 2 + min (s % 2) y) f g
     ∙ ap (λ (x : ℕ). x * 2 + min (s % 2) 0) m
-    ∙ let z = without-zero s in omega arith
-and-all_but (suc k) s (suc j) h l =
+    ∙ let z = without_zero s in omega arith
+and_all_but (suc k) s (suc j) h l =
     let p = pow-suc 2 k in
     let r = pow-suc 2 j in
     let q = pow-lt {i = j} {j = k} (omega arith) in
@@ -82,5 +82,5 @@ and-all_but (suc k) s (suc j) h l =
     let g : ((2 ^ suc k - 1) - 2 ^ suc j) % 2 ≡ 1 = omega arith in
     and_step s ((2 ^ suc k - 1) - 2 ^ suc j)
     ∙ ap₂ (λ (x y : ℕ). bit_and (s / 2) x * 2 + min (s % 2) y) f g
-    ∙ ap (λ (x : ℕ). x * 2 + min (s % 2) 1) (and-all_but k (s / 2) j (omega arith) (omega arith))
+    ∙ ap (λ (x : ℕ). x * 2 + min (s % 2) 1) (and_all_but k (s / 2) j (omega arith) (omega arith))
     ∙ let z = without_suc s j in omega arith

@@ -7,7 +7,7 @@ use native.Mathlib.Omega.{arith}
 use lib.ListN.{get_or}
 use lib.Dec.{eqb}
 use borrow.Author.Tests.{eqb-true, eq-eqb, ne_eqb}
-use Rattle.lists.proofs.Tests.{all_from, all-fails}
+use Rattle.lists.proofs.Tests.{all_from, all_fails}
 use Rattle.limits.specs.declared.Refusal.{Refusal}
 use Rattle.sheet_lines.specs.Found.{Found, found, offence}
 use Rattle.sheet_lines.specs.Bytes.{is_heard, is_kind}
@@ -27,21 +27,21 @@ one_of_three b x y z l m n e = third (eqb b x || eqb b y) refl e
     third true p h = second (eqb b x) refl p
     third false p h = omega (arith, eqb-true b z h)
 
-pub heard-small : (b : ℕ) → is_heard b ≡ true → b < 256
-heard-small b e = one_of_three b 49 48 45 (omega arith) (omega arith) (omega arith) e
+pub heard_small : (b : ℕ) → is_heard b ≡ true → b < 256
+heard_small b e = one_of_three b 49 48 45 (omega arith) (omega arith) (omega arith) e
 
-pub kind-small : (b : ℕ) → is_kind b ≡ true → b < 256
-kind-small b e = one_of_three b 83 82 68 (omega arith) (omega arith) (omega arith) e
+pub kind_small : (b : ℕ) → is_kind b ≡ true → b < 256
+kind_small b e = one_of_three b 83 82 68 (omega arith) (omega arith) (omega arith) e
 
 -- ---- module numbers that are new
 
-pub is-new : (number k : ℕ) (modules : List ℕ) → ((j : ℕ) → j < k → get_or modules j 0 ≡ number → ⊥) → is_new number k modules ≡ true
+pub is_new_lem : (number k : ℕ) (modules : List ℕ) → ((j : ℕ) → j < k → get_or modules j 0 ≡ number → ⊥) → is_new number k modules ≡ true
 unfolding is_new
-is-new number k modules h = all_from (λ j. not (eqb (get_or modules j 0) number)) k (λ j l. ap not (ne_eqb (get_or modules j 0) number (h j l)))
+is_new_lem number k modules h = all_from (λ j. not (eqb (get_or modules j 0) number)) k (λ j l. ap not (ne_eqb (get_or modules j 0) number (h j l)))
 
 pub not_new : (number k : ℕ) (modules : List ℕ) (j : ℕ) → j < k → get_or modules j 0 ≡ number → is_new number k modules ≡ false
 unfolding is_new
-not_new number k modules j l e = all-fails (λ j. not (eqb (get_or modules j 0) number)) k j l (ap not (eq-eqb (get_or modules j 0) number e))
+not_new number k modules j l e = all_fails (λ j. not (eqb (get_or modules j 0) number)) k j l (ap not (eq-eqb (get_or modules j 0) number e))
 
 -- ---- so many lines
 

@@ -20,9 +20,9 @@ pub record Kept (n k : ℕ) (last m : Mark) : Type 0 where
   pub above : ascends k last m ≡ true
   pub allows : allowed n m ≡ true
 
-pub good-mark : (n k : ℕ) (last m : Mark) → mark_offence n k last m ≡ none → Kept n k last m
+pub good_mark : (n k : ℕ) (last m : Mark) → mark_offence n k last m ≡ none → Kept n k last m
 unfolding mark_offence
-good-mark n k last m e = go (mark_within n m) (ascends k last m) (allowed n m) refl refl refl e
+good_mark n k last m e = go (mark_within n m) (ascends k last m) (allowed n m) refl refl refl e
   where
     go : (a b c : Bool) → mark_within n m ≡ a → ascends k last m ≡ b → allowed n m ≡ c
         → cond a (cond b (cond c none (some WrongMark)) (some MarkNotAbove)) (some OutsideLimits) ≡ none → Kept n k last m
@@ -34,10 +34,10 @@ good-mark n k last m e = go (mark_within n m) (ascends k last m) (allowed n m) r
     go false b c p q r h = let z : ◌≡◌ {A = ℕ} 0 1 = cc in absurd (omega arith)
 
 -- what is true of the three offences of a mark is true of the one it has
-pub mark-offence : (of : Refusal → Bool) → of OutsideLimits ≡ true → of MarkNotAbove ≡ true → of WrongMark ≡ true → (n k : ℕ) (last m : Mark) (why : Refusal)
+pub mark_offence_lem : (of : Refusal → Bool) → of OutsideLimits ≡ true → of MarkNotAbove ≡ true → of WrongMark ≡ true → (n k : ℕ) (last m : Mark) (why : Refusal)
     → mark_offence n k last m ≡ some why → of why ≡ true
 unfolding mark_offence
-mark-offence of x y z n k last m why e = go (mark_within n m) (ascends k last m) (allowed n m) e
+mark_offence_lem of x y z n k last m why e = go (mark_within n m) (ascends k last m) (allowed n m) e
   where
     go : (a b c : Bool) → cond a (cond b (cond c none (some WrongMark)) (some MarkNotAbove)) (some OutsideLimits) ≡ some why → of why ≡ true
     go true true true h = let f : ◌≡◌ {A = ℕ} 0 1 = cc in absurd (omega arith)

@@ -12,11 +12,11 @@ use Rattle.sheet.specs.declared.Sheet.{Sheet}
 
 -- ---- what was found
 
-pub found-by : {p : Piece} {x : Found ℕ} {v n : ℕ} → found_of p ≡ x → p ≡ piece.Found v n → x ≡ found v n
-found-by e f = sym e ∙ ap found_of f
+pub found_by : {p : Piece} {x : Found ℕ} {v n : ℕ} → found_of p ≡ x → p ≡ piece.Found v n → x ≡ found v n
+found_by e f = sym e ∙ ap found_of f
 
-pub beside-by : {A : Type 0} {a : A} {p : Piece} {x : Found A} {v n : ℕ} → beside a p ≡ x → p ≡ piece.Found v n → x ≡ found a n
-beside-by {a} e f = sym e ∙ ap (beside a) f
+pub beside_by : {A : Type 0} {a : A} {p : Piece} {x : Found A} {v n : ℕ} → beside a p ≡ x → p ≡ piece.Found v n → x ≡ found a n
+beside_by {a} e f = sym e ∙ ap (beside a) f
 
 -- ---- a reading from the whole
 
@@ -25,10 +25,10 @@ abbrev pub end_told : Piece → Told
 end_told (piece.Found value next) = done
 end_told (piece.Offence why place) = refused (number_of why) place
 
-pub whole-told : (x : Found Sheet) → end_told (whole_of x).end ≡ read_told x
-whole-told (found sheet end) = refl
-whole-told (offence why place) = refl
+pub whole_told : (x : Found Sheet) → end_told (whole_of x).end ≡ read_told x
+whole_told (found sheet end) = refl
+whole_told (offence why place) = refl
 
-pub whole-sheet : (x : Found Sheet) → (whole_of x).sheet ≡ sheet_of x
-whole-sheet (found sheet end) = refl
-whole-sheet (offence why place) = refl
+pub whole_sheet : (x : Found Sheet) → (whole_of x).sheet ≡ sheet_of x
+whole_sheet (found sheet end) = refl
+whole_sheet (offence why place) = refl

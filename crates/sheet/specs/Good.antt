@@ -25,7 +25,7 @@ pub record GoodSheet (sheet : Sheet) : Type 0 where
   -- owner; they ascend strictly
   pub marked : sheet.mark_count ≤ marks_most
   pub times : (i : ℕ) → i < sheet.mark_count → (mark_of sheet i).time < slots_most
-  pub marked-seats : (i : ℕ) → i < sheet.mark_count → (mark_of sheet i).seat < sheet.n
+  pub marked_seats : (i : ℕ) → i < sheet.mark_count → (mark_of sheet i).seat < sheet.n
   pub kinds : (i : ℕ) → i < sheet.mark_count → is_kind (mark_of sheet i).kind ≡ true
   pub fitting : (i : ℕ) → i < sheet.mark_count → allowed sheet.n (mark_of sheet i) ≡ true
   pub ascending : (i : ℕ) → suc i < sheet.mark_count → above (mark_of sheet i) (mark_of sheet (suc i)) ≡ true

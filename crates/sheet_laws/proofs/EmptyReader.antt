@@ -23,24 +23,24 @@ ShutOut Kind = (f : Reader) → Kind f → Keeps f → ⊥
 good : List ℕ
 good = 50 ∷ 10 ∷ 55 ∷ 10 ∷ 56 ∷ 10 ∷ 48 ∷ 10 ∷ 48 ∷ 10 ∷ []
 
-good-read : read_told (sheet_in good) ≡ done
+good_read : read_told (sheet_in good) ≡ done
 unfolding good sheet_in lines_at module_line is_new slot_line mark_line fields_at spaced_at mark_offence line_at ended end_at number_at digits_at byte_at no_modules no_marks no_slots
-good-read = refl
+good_read = refl
 
-empty-refused : read_told (sheet_in []) ≡ refused 1 0
+empty_refused : read_told (sheet_in []) ≡ refused 1 0
 unfolding sheet_in line_at ended end_at number_at digits_at byte_at no_modules
-empty-refused = refl
+empty_refused = refl
 
 -- ---- the theorems
 
-pub refuses_all-read : ShutOut RefusesAll
-refuses_all-read f all keeps =
+pub refuses_all_read : ShutOut RefusesAll
+refuses_all_read f all keeps =
     let x = all good in
-    not_done (sym x.2 ∙ (keeps good).answer ∙ good-read)
+    not_done (sym x.2 ∙ (keeps good).answer ∙ good_read)
 
-pub constant-read : ShutOut Constant
-constant-read f (r, same) keeps =
+pub constant_read : ShutOut Constant
+constant_read f (r, same) keeps =
     not_done
-    (sym ((keeps []).answer ∙ empty-refused)
+    (sym ((keeps []).answer ∙ empty_refused)
     ∙ ap (λ (x : Reading). read_tells x.answer) (same [] ∙ sym (same good))
-    ∙ (keeps good).answer ∙ good-read)
+    ∙ (keeps good).answer ∙ good_read)

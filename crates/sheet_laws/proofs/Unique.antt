@@ -7,7 +7,7 @@ use Rattle.limits.proofs.Refusals.{one_reason}
 use Rattle.sheet_lines.specs.Pieces.{found_of}
 use Rattle.sheet_lines.specs.declared.Piece.{Piece}
 use Rattle.sheet_lines.specs.declared.Piece.TheVariants as piece
-use Rattle.sheet_lines.proofs.ByteLaws.{not-both}
+use Rattle.sheet_lines.proofs.ByteLaws.{not_both}
 use Rattle.sheet.specs.Sheets.{read_tells, ReadPromise}
 use Rattle.sheet.specs.declared.Sheet.{Sheet}
 use Rattle.sheet.specs.declared.ReadAnswer.{ReadAnswer}
@@ -23,8 +23,8 @@ one_piece (piece.Found v n) (piece.Found w m) e =
     let x : v ≡ w = cc in
     let y : n ≡ m = cc in
     ap₂ piece.Found x y
-one_piece (piece.Found v n) (piece.Offence why place) e = not-both why (sym e)
-one_piece (piece.Offence why place) (piece.Found v n) e = not-both why e
+one_piece (piece.Found v n) (piece.Offence why place) e = not_both why (sym e)
+one_piece (piece.Offence why place) (piece.Found v n) e = not_both why e
 one_piece (piece.Offence why place) (piece.Offence why' place') e =
     let x : why ≡ why' = cc in
     let y : place ≡ place' = cc in

@@ -8,7 +8,7 @@ use lib.ListN.{length, get_or}
 use lib.Dec.{ltb, eqb}
 use borrow.Author.Tests.{lt-ltb, le-ltb, ltb-true}
 use Rattle.lists.specs.Counted.{all_below}
-use Rattle.lists.proofs.Tests.{all-at}
+use Rattle.lists.proofs.Tests.{all_at}
 use Rattle.limits.specs.declared.Refusal.TheVariants.{EndsEarly, WrongByte}
 use Rattle.sheet_lines.specs.Found.{found, offence}
 use Rattle.sheet_lines.specs.Bytes.{byte_at}
@@ -18,23 +18,23 @@ use Rattle.sheet_lines.specs.declared.Want.{Want}
 use Rattle.sheet_lines.specs.declared.Want.TheVariants.{Digit, Space, Feed, Kind, Heard}
 
 -- two outcomes that differ are not equal
-pub not-both : {A X : Type 0} {a : A} {n : ℕ} (why : _) {place : ℕ} → offence why place ≡ found a n → X
-not-both why e = let z : ◌≡◌ {A = ℕ} 0 1 = cc in absurd (omega arith)
+pub not_both : {A X : Type 0} {a : A} {n : ℕ} (why : _) {place : ℕ} → offence why place ≡ found a n → X
+not_both why e = let z : ◌≡◌ {A = ℕ} 0 1 = cc in absurd (omega arith)
 
 -- ---- a byte at a place
 
 module _ (can : ℕ → Bool) (s : List ℕ) (at : ℕ) where
-  pub byte-here : at < length s → can (get_or s at 0) ≡ true → byte_at can s at ≡ found (get_or s at 0) (at + 1)
+  pub byte_here : at < length s → can (get_or s at 0) ≡ true → byte_at can s at ≡ found (get_or s at 0) (at + 1)
   unfolding byte_at
-  byte-here l h = rw (lt-ltb at (length s) l, h)
+  byte_here l h = rw (lt-ltb at (length s) l, h)
 
-  pub byte-wrong : at < length s → can (get_or s at 0) ≡ false → byte_at can s at ≡ offence WrongByte at
+  pub byte_wrong : at < length s → can (get_or s at 0) ≡ false → byte_at can s at ≡ offence WrongByte at
   unfolding byte_at
-  byte-wrong l h = rw (lt-ltb at (length s) l, h)
+  byte_wrong l h = rw (lt-ltb at (length s) l, h)
 
-  pub byte-ends : length s ≤ at → byte_at can s at ≡ offence EndsEarly (length s)
+  pub byte_ends : length s ≤ at → byte_at can s at ≡ offence EndsEarly (length s)
   unfolding byte_at
-  byte-ends l = rw (le-ltb at (length s) l)
+  byte_ends l = rw (le-ltb at (length s) l)
 
   -- what a byte that was found is
   pub record Byte (b next : ℕ) : Type 0 where
@@ -43,9 +43,9 @@ module _ (can : ℕ → Bool) (s : List ℕ) (at : ℕ) where
     pub same : b ≡ get_or s at 0
     pub past : next ≡ at + 1
 
-  pub byte-found : (b next : ℕ) → byte_at can s at ≡ found b next → Byte b next
+  pub byte_found : (b next : ℕ) → byte_at can s at ≡ found b next → Byte b next
   unfolding byte_at
-  byte-found b next e = go (ltb at (length s)) (can (get_or s at 0)) refl refl e
+  byte_found b next e = go (ltb at (length s)) (can (get_or s at 0)) refl refl e
     where
       go : (t u : Bool) → ltb at (length s) ≡ t → can (get_or s at 0) ≡ u
           → cond t (cond u (found (get_or s at 0) (at + 1)) (offence WrongByte at)) (offence EndsEarly (length s)) ≡ found b next
@@ -53,8 +53,8 @@ module _ (can : ℕ → Bool) (s : List ℕ) (at : ℕ) where
       go true true p q h =
           let x : get_or s at 0 ≡ b = cc in
           record { inside = ltb-true at (length s) p; passes = ap can (sym x) ∙ q; same = sym x; past = cc }
-      go true false p q h = not-both _ h
-      go false u p q h = not-both _ h
+      go true false p q h = not_both _ h
+      go false u p q h = not_both _ h
 
 -- ---- classes
 
@@ -69,12 +69,12 @@ class_can Heard c = eqb (code_of c) 0 || eqb (code_of c) 5
 same : Bool → Bool → Bool
 same a b = cond a b (not b)
 
-same-is : (a b : Bool) → same a b ≡ true → a ≡ b
+same_is : (a b : Bool) → same a b ≡ true → a ≡ b
 unfolding same
-same-is true true e = refl
-same-is true false e = absurd (false≢true e)
-same-is false true e = absurd (false≢true e)
-same-is false false e = refl
+same_is true true e = refl
+same_is true false e = absurd (false≢true e)
+same_is false true e = absurd (false≢true e)
+same_is false false e = refl
 
 -- tried at every byte
 tried : (w : Want) → all_below 256 (λ b. same (can_be w b) (class_can w (class_of b))) ≡ true
@@ -87,4 +87,4 @@ tried Heard = refl
 
 -- a byte can stand where its class is the one that is wanted
 pub suits : (w : Want) (b : ℕ) → b < 256 → can_be w b ≡ class_can w (class_of b)
-suits w b l = same-is _ _ (all-at (λ b. same (can_be w b) (class_can w (class_of b))) 256 b (tried w) l)
+suits w b l = same_is _ _ (all_at (λ b. same (can_be w b) (class_can w (class_of b))) 256 b (tried w) l)

@@ -24,15 +24,15 @@ unfolding digits_at
 digits_stop zero v s at why place h = refl
 digits_stop (suc k) v s at why place h = rw h
 
-pub digits-go : (k v : ℕ) (s : List ℕ) (at digit next : ℕ) → 0 < k → byte_at is_digit s at ≡ found digit next
+pub digits_go : (k v : ℕ) (s : List ℕ) (at digit next : ℕ) → 0 < k → byte_at is_digit s at ≡ found digit next
     → digits_at k v s at ≡ digits_at (k - 1) (v * 10 + (digit - 48)) s next
 unfolding digits_at
-digits-go zero v s at digit next p h = absurd (omega arith)
-digits-go (suc k) v s at digit next p h = rw (h, sub-one)
+digits_go zero v s at digit next p h = absurd (omega arith)
+digits_go (suc k) v s at digit next p h = rw (h, sub-one)
 
-pub digits-end : (k v : ℕ) (s : List ℕ) (at : ℕ) → k ≤ 0 → digits_at k v s at ≡ found v at
+pub digits_end : (k v : ℕ) (s : List ℕ) (at : ℕ) → k ≤ 0 → digits_at k v s at ≡ found v at
 unfolding digits_at
-digits-end k v s at h = let e : k ≡ 0 = omega arith in rw e
+digits_end k v s at h = let e : k ≡ 0 = omega arith in rw e
 
 -- ---- a value of five digits at most
 
@@ -44,8 +44,8 @@ pub below_more : (left v d : ℕ) → 0 < left → left ≤ 4 → d < 10 → Bel
 below_more left v d p q r h zero e = absurd (omega arith)
 below_more left v d p q r h (suc k) e = rw (pow-suc 10 k) (omega (arith, h k (omega arith)))
 
-pub below-small : (left v : ℕ) → 0 < left → left ≤ 4 → Below left v → v < 10000
-below-small left v p q h =
+pub below_small : (left v : ℕ) → 0 < left → left ≤ 4 → Below left v → v < 10000
+below_small left v p q h =
     let e : 5 - left + left ≡ 5 = omega arith in
     let d : 5 - left ≤ 4 = omega arith in
     let m : 10 ^ (5 - left) ≤ 10 ^ 4 = pow-le-pow_right (lit< tt) d in

@@ -17,14 +17,14 @@ use Rattle.ring.specs.declared.Ring.{Ring}
 use Rattle.turn.specs.declared.Slot.{Slot}
 use Rattle.ring.proofs.Checked.{Valid, Member}
 use Rattle.steps.proofs.Drawn.{drawn_seat, undrawn_seat}
-use Rattle.turn.proofs.TurnLaws.{set_le, fault-by}
+use Rattle.turn.proofs.TurnLaws.{set_le, fault_by}
 
 -- ---- the seats
 
 module _ (r : Ring) (c : Slot) where
   -- a seat below n is as its turn leaves it
-  pub seat-after : (p : ℕ) → p < r.n → seat_of (ring_after r c) p ≡ (turn_of c p (seat_of r p)).seat
-  seat-after = drawn_seat r.n r (λ q. (turn_at r c q).seat)
+  pub seat_after : (p : ℕ) → p < r.n → seat_of (ring_after r c) p ≡ (turn_of c p (seat_of r p)).seat
+  seat_after = drawn_seat r.n r (λ q. (turn_at r c q).seat)
 
   -- a seat n or above is as it was
   pub seat_beyond : (p : ℕ) → r.n ≤ p → seat_of (ring_after r c) p ≡ seat_of r p
@@ -33,14 +33,14 @@ module _ (r : Ring) (c : Slot) where
 -- ---- the records
 
 -- the trail keeps its length where they fit
-pub length-after : (r : Ring) (c : Slot) (t : List ℕ) → width * (r.records + count_in r c) ≤ length t → length (trail_after r c t) ≡ length t
-length-after r c t l = length-written r c t r.records l r.n (le_refl r.n)
+pub length_after : (r : Ring) (c : Slot) (t : List ℕ) → width * (r.records + count_in r c) ≤ length t → length (trail_after r c t) ≡ length t
+length_after r c t l = length-written r c t r.records l r.n (le_refl r.n)
 
 -- ---- a ring leads to a ring
 
-pub valid-after : (r : Ring) (send : Bool) (receive room : ℕ) → Valid r room → r.time < slots_most
+pub valid_after : (r : Ring) (send : Bool) (receive room : ℕ) → Valid r room → r.time < slots_most
     → r.records + count_in r (slot_of r send receive) ≤ room → Valid (ring_after r (slot_of r send receive)) room
-valid-after r send receive room v early fit =
+valid_after r send receive room v early fit =
     let c = slot_of r send receive in
     record {
       least = v.least;
@@ -51,9 +51,9 @@ valid-after r send receive room v early fit =
           let m = v.member p l in
           let s = set_le c p (seat_of r p) in
           let q = m.past in
-          let f = fault-by c p (seat_of r p) (omega arith) in
+          let f = fault_by c p (seat_of r p) (omega arith) in
           let i = m.inside in
           let n : Member r.n (r.time + 1) (turn_at r c p).seat = record { inside = omega arith; past = f } in
-          rw (seat-after r c p l) n;
+          rw (seat_after r c p l) n;
       absent = λ p l m. seat_beyond r c p l ∙ v.absent p l m;
     }

@@ -11,7 +11,7 @@ use lib.ListN.{length}
 use Rattle.limits.specs.Limits.{seats_least, seats_most}
 use Rattle.limits.specs.Refusals.{done, refused}
 use Rattle.limits.proofs.Refusals.{told_is}
-use Rattle.lists.proofs.Counted.{get_or-alike}
+use Rattle.lists.proofs.Counted.{get_or_alike}
 use Rattle.seats.proofs.Sets.{full_is}
 use Rattle.ring.specs.Ring.{seat_of, no_seat, fresh_seat, zero_ring, fresh_ring}
 use Rattle.ring.specs.Step.{slot_of, ring_after, trail_after}
@@ -19,48 +19,48 @@ use Rattle.trail.specs.Trail.{room_for}
 use Rattle.steps.specs.Run.{Marks, Bench, told_on, step_on, fresh_bench, Reached, start, taken, run_on}
 use Rattle.ring.proofs.Checked.{Valid, Member}
 use Rattle.steps.proofs.Drawn.{drawn_seat, undrawn_seat}
-use Rattle.steps.proofs.Taken.{told-taken, refused-ring, refused-trail, taken-ring, taken-trail}
-use Rattle.trail.proofs.RecordLaws.{room-bytes}
-use Rattle.steps.proofs.After.{valid-after, length-after}
+use Rattle.steps.proofs.Taken.{told_taken, refused_ring, refused_trail, taken_ring, taken_trail}
+use Rattle.trail.proofs.RecordLaws.{room_bytes}
+use Rattle.steps.proofs.After.{valid_after, length_after}
 
 -- ---- a fresh ring
 
-pub fresh-n : (n : ℕ) → (fresh_ring n).n ≡ n
+pub fresh_n : (n : ℕ) → (fresh_ring n).n ≡ n
 unfolding fresh_ring
-fresh-n n = refl
+fresh_n n = refl
 
-pub fresh-time : (n : ℕ) → (fresh_ring n).time ≡ 0
+pub fresh_time : (n : ℕ) → (fresh_ring n).time ≡ 0
 unfolding fresh_ring
-fresh-time n = refl
+fresh_time n = refl
 
 pub fresh_records : (n : ℕ) → (fresh_ring n).records ≡ 0
 unfolding fresh_ring
 fresh_records n = refl
 
-pub fresh-seat : (n p : ℕ) → p < n → seat_of (fresh_ring n) p ≡ fresh_seat n
+pub fresh_seat_lem : (n p : ℕ) → p < n → seat_of (fresh_ring n) p ≡ fresh_seat n
 unfolding fresh_ring
-fresh-seat n = drawn_seat n zero_ring (λ q. fresh_seat n)
+fresh_seat_lem n = drawn_seat n zero_ring (λ q. fresh_seat n)
 
-zero-seat : (p : ℕ) → seat_of zero_ring p ≡ no_seat
+zero_seat : (p : ℕ) → seat_of zero_ring p ≡ no_seat
 unfolding zero_ring
-zero-seat p = rw (get_or-alike {A = ℕ} seats_most p 0, get_or-alike {A = Bool} seats_most p false)
+zero_seat p = rw (get_or_alike {A = ℕ} seats_most p 0, get_or_alike {A = Bool} seats_most p false)
 
 pub fresh_beyond : (n p : ℕ) → n ≤ p → seat_of (fresh_ring n) p ≡ no_seat
 unfolding fresh_ring
-fresh_beyond n p l = undrawn_seat n zero_ring (λ q. fresh_seat n) p l ∙ zero-seat p
+fresh_beyond n p l = undrawn_seat n zero_ring (λ q. fresh_seat n) p l ∙ zero_seat p
 
-pub fresh-valid : (n room : ℕ) → seats_least ≤ n → n ≤ seats_most → Valid (fresh_ring n) room
-fresh-valid n room l h =
+pub fresh_valid : (n room : ℕ) → seats_least ≤ n → n ≤ seats_most → Valid (fresh_ring n) room
+fresh_valid n room l h =
     let e = full_is n h in
     let z = pow_pos n in
-    let en = fresh-n n in
+    let en = fresh_n n in
     let m : Member n 0 (fresh_seat n) = record { inside = omega arith; past = le_refl 0 } in
     record {
-      least = rw fresh-n l;
-      most = rw fresh-n h;
-      soon = rw fresh-time (omega arith);
+      least = rw fresh_n l;
+      most = rw fresh_n h;
+      soon = rw fresh_time (omega arith);
       fits = rw fresh_records (omega arith);
-      member = λ p k. let i : p < n = omega (arith, k) in rw (fresh-n n, fresh-time n, fresh-seat n p i) m;
+      member = λ p k. let i : p < n = omega (arith, k) in rw (fresh_n n, fresh_time n, fresh_seat_lem n p i) m;
       absent = λ p k q. fresh_beyond n p (omega (arith, k));
     }
 
@@ -75,8 +75,8 @@ bench_after m b = record {
 
 pub step_after : (m : Marks) (b : Bench) → told_on m b ≡ done → step_on m b ≡ bench_after m b
 step_after m b e =
-    let f = taken-ring b.ring m.send m.receive b.trail e in
-    let g = taken-trail b.ring m.send m.receive b.trail e in
+    let f = taken_ring b.ring m.send m.receive b.trail e in
+    let g = taken_trail b.ring m.send m.receive b.trail e in
     λ i. record { ring = f i; trail = g i }
 
 -- ---- every bench of a run
@@ -87,26 +87,26 @@ pub record Stands (n bytes : ℕ) (b : Bench) : Type 0 where
   pub seats : b.ring.n ≡ n
   pub kept : length b.trail ≡ bytes
 
-pub step-stands : (n bytes : ℕ) (m : Marks) (b : Bench) → Stands n bytes b → told_on m b ≡ done → Stands n bytes (bench_after m b)
-step-stands n bytes m b s e =
-    let t = told-taken b.ring m.send m.receive (length b.trail) e in
+pub step_stands : (n bytes : ℕ) (m : Marks) (b : Bench) → Stands n bytes b → told_on m b ≡ done → Stands n bytes (bench_after m b)
+step_stands n bytes m b s e =
+    let t = told_taken b.ring m.send m.receive (length b.trail) e in
     let c = slot_of b.ring m.send m.receive in
     let k = s.kept in
     record {
-      valid = rw k at (valid-after b.ring m.send m.receive (room_for (length b.trail)) t.valid t.before t.room);
+      valid = rw k at (valid_after b.ring m.send m.receive (room_for (length b.trail)) t.valid t.before t.room);
       seats = s.seats;
-      kept = length-after b.ring c b.trail (room-bytes _ _ t.room) ∙ s.kept;
+      kept = length_after b.ring c b.trail (room_bytes _ _ t.room) ∙ s.kept;
     }
 
 module _ (n : ℕ) (trail : List ℕ) (low : seats_least ≤ n) (high : n ≤ seats_most) where
-  pub start-stands : Stands n (length trail) (fresh_bench n trail)
-  start-stands = record { valid = fresh-valid n (room_for (length trail)) low high; seats = fresh-n n; kept = refl }
+  pub start_stands : Stands n (length trail) (fresh_bench n trail)
+  start_stands = record { valid = fresh_valid n (room_for (length trail)) low high; seats = fresh_n n; kept = refl }
 
   pub reached_stands : {b : Bench} → Reached n trail b → Stands n (length trail) b
-  reached_stands start = start-stands
+  reached_stands start = start_stands
   reached_stands (taken {b = b} w m e) =
       let s = reached_stands w in
-      subst (λ (x : Bench). Stands n (length trail) x) (sym (step_after m b e)) (step-stands n (length trail) m b s e)
+      subst (λ (x : Bench). Stands n (length trail) x) (sym (step_after m b e)) (step_stands n (length trail) m b s e)
 
   -- what holds at the start, and after each step taken where it held before, holds at every moment of the run
   pub reached_elim : (P : Bench → Type 0) → P (fresh_bench n trail)
@@ -118,21 +118,21 @@ module _ (n : ℕ) (trail : List ℕ) (low : seats_least ≤ n) (high : n ≤ se
 
 -- ---- a run whose steps are taken or refused
 
-pub step-refused : (m : Marks) (b : Bench) {k q : ℕ} → told_on m b ≡ refused k q → step_on m b ≡ b
-step-refused m b e =
-    let f = refused-ring b.ring m.send m.receive b.trail e in
-    let g = refused-trail b.ring m.send m.receive b.trail e in
+pub step_refused : (m : Marks) (b : Bench) {k q : ℕ} → told_on m b ≡ refused k q → step_on m b ≡ b
+step_refused m b e =
+    let f = refused_ring b.ring m.send m.receive b.trail e in
+    let g = refused_trail b.ring m.send m.receive b.trail e in
     λ i. record { ring = f i; trail = g i }
 
 -- the trail keeps its length
-pub step-length : (m : Marks) (b : Bench) → length (step_on m b).trail ≡ length b.trail
-step-length m b =
+pub step_length : (m : Marks) (b : Bench) → length (step_on m b).trail ≡ length b.trail
+step_length m b =
     ⊎_elim
     (λ e.
-    let t = told-taken b.ring m.send m.receive (length b.trail) e in
+    let t = told_taken b.ring m.send m.receive (length b.trail) e in
     ap (λ (x : Bench). length x.trail) (step_after m b e)
-    ∙ length-after b.ring (slot_of b.ring m.send m.receive) b.trail (room-bytes _ _ t.room))
-    (λ x. ap (λ (y : Bench). length y.trail) (step-refused m b x.2))
+    ∙ length_after b.ring (slot_of b.ring m.send m.receive) b.trail (room_bytes _ _ t.room))
+    (λ x. ap (λ (y : Bench). length y.trail) (step_refused m b x.2))
     (told_is (told_on m b))
 
 -- steps after steps
@@ -148,5 +148,5 @@ run_reached [] w = w
 run_reached {n} {trail} (m ∷ ms) {b} w =
     ⊎_elim
     (λ e. run_reached ms (taken w m e))
-    (λ x. run_reached ms (subst (λ (y : Bench). Reached n trail y) (sym (step-refused m b x.2)) w))
+    (λ x. run_reached ms (subst (λ (y : Bench). Reached n trail y) (sym (step_refused m b x.2)) w))
     (told_is (told_on m b))

@@ -13,7 +13,7 @@ use Rattle.limits.specs.declared.Refusal.TheVariants.{WrongMark, NoRoom, AtTheEn
 use Rattle.limits.proofs.Refusals.{not_done}
 use Rattle.lists.proofs.Tests.{and-true, and_of}
 use Rattle.seats.specs.Sets.{has_seat, full_set}
-use Rattle.seats.proofs.Sets.{below-full, full_is}
+use Rattle.seats.proofs.Sets.{below_full, full_is}
 use Rattle.ring.specs.Ring.{owner_of, is_ring}
 use Rattle.ring.specs.Step.{slot_of, count_in, ring_after, trail_after}
 use Rattle.trail.specs.Trail.{room_for}
@@ -21,7 +21,7 @@ use Rattle.ring.specs.Refusals.{marks_stand, step_told}
 use Rattle.ring.specs.Promise.{ring_of, trail_of}
 use Rattle.ring.proofs.Refusing.{all_checked}
 use Rattle.ring.specs.declared.Ring.{Ring}
-use Rattle.ring.proofs.Checked.{Valid, ring-valid, valid-ring}
+use Rattle.ring.proofs.Checked.{Valid, ring_valid, valid_ring}
 
 -- a step that is taken, with a trail of so many bytes
 pub record Taken (r : Ring) (send : Bool) (receive bytes : ℕ) : Type 0 where
@@ -44,11 +44,11 @@ failed false t k q e = (refl, e)
 -- ---- when a step is taken
 
 module _ (r : Ring) (send : Bool) (receive bytes : ℕ) where
-  pub told-taken : step_told r send receive bytes ≡ done → Taken r send receive bytes
+  pub told_taken : step_told r send receive bytes ≡ done → Taken r send receive bytes
   unfolding step_told
-  told-taken e =
+  told_taken e =
       let a = passed (is_ring r (room_for bytes)) _ (number_of NotARing) 0 e in
-      let v = ring-valid r (room_for bytes) a.0 in
+      let v = ring_valid r (room_for bytes) a.0 in
       let b = passed (marks_stand r.n (slot_of r send receive)) _ (number_of WrongMark) r.time a.1 in
       let m = and-true _ _ b.0 in
       let c = failed (eqb r.time slots_most) _ (number_of AtTheEnd) slots_most b.1 in
@@ -57,35 +57,35 @@ module _ (r : Ring) (send : Bool) (receive bytes : ℕ) where
       let l = v.soon in
       record {
         valid = v;
-        within = below-full receive r.n v.most (leb-true _ _ m.0);
+        within = below_full receive r.n v.most (leb-true _ _ m.0);
         others = not-true _ m.1;
         before = omega arith;
         room = leb-true _ _ d.0;
       }
 
-  pub taken-told : Taken r send receive bytes → step_told r send receive bytes ≡ done
-  taken-told t =
+  pub taken_told : Taken r send receive bytes → step_told r send receive bytes ≡ done
+  taken_told t =
       let f = full_is r.n t.valid.most in
       let l = t.within in
       let m : marks_stand r.n (slot_of r send receive) ≡ true = and_of (le-leb receive (full_set r.n) (omega arith)) (ap not t.others) in
       let b = t.before in
-      all_checked r send receive bytes (valid-ring r (room_for bytes) t.valid) m (ne_eqb r.time slots_most (omega arith)) (le-leb _ _ t.room)
+      all_checked r send receive bytes (valid_ring r (room_for bytes) t.valid) m (ne_eqb r.time slots_most (omega arith)) (le-leb _ _ t.room)
 
 -- ---- what it gives
 
 module _ (r : Ring) (send : Bool) (receive : ℕ) (t : List ℕ) where
-  pub taken-ring : step_told r send receive (length t) ≡ done → ring_of r send receive t ≡ ring_after r (slot_of r send receive)
+  pub taken_ring : step_told r send receive (length t) ≡ done → ring_of r send receive t ≡ ring_after r (slot_of r send receive)
   unfolding ring_of
-  taken-ring e = rw e
+  taken_ring e = rw e
 
-  pub taken-trail : step_told r send receive (length t) ≡ done → trail_of r send receive t ≡ trail_after r (slot_of r send receive) t
+  pub taken_trail : step_told r send receive (length t) ≡ done → trail_of r send receive t ≡ trail_after r (slot_of r send receive) t
   unfolding trail_of
-  taken-trail e = rw e
+  taken_trail e = rw e
 
-  pub refused-ring : {k q : ℕ} → step_told r send receive (length t) ≡ refused k q → ring_of r send receive t ≡ r
+  pub refused_ring : {k q : ℕ} → step_told r send receive (length t) ≡ refused k q → ring_of r send receive t ≡ r
   unfolding ring_of
-  refused-ring e = rw e
+  refused_ring e = rw e
 
-  pub refused-trail : {k q : ℕ} → step_told r send receive (length t) ≡ refused k q → trail_of r send receive t ≡ t
+  pub refused_trail : {k q : ℕ} → step_told r send receive (length t) ≡ refused k q → trail_of r send receive t ≡ t
   unfolding trail_of
-  refused-trail e = rw e
+  refused_trail e = rw e

@@ -14,9 +14,9 @@ use Rattle.text.specs.Decimal.{digits_in, decimal}
 
 -- ---- a number below 10, and any other
 
-digits-one : (k n : ℕ) → n < 10 → digits_in (suc k) n ≡ digit n ∷ []
+digits_one : (k n : ℕ) → n < 10 → digits_in (suc k) n ≡ digit n ∷ []
 unfolding digits_in
-digits-one k n h = rw (lt-ltb n 10 h)
+digits_one k n h = rw (lt-ltb n 10 h)
 
 digits_more : (k n : ℕ) → 10 ≤ n → digits_in (suc k) n ≡ digits_in k (n / 10) ++ (digit (n % 10) ∷ [])
 unfolding digits_in
@@ -28,7 +28,7 @@ digits_same zero m n h g = absurd (omega arith)
 digits_same (suc k) zero n h g = absurd (omega arith)
 digits_same (suc k) (suc m) n h g =
     ⊎_elim
-    (λ e. let l = ltb-true n 10 e in digits-one k n l ∙ sym (digits-one m n l))
+    (λ e. let l = ltb-true n 10 e in digits_one k n l ∙ sym (digits_one m n l))
     (λ e.
     let l = ltb-false n 10 e in
     digits_more k n l
@@ -36,33 +36,33 @@ digits_same (suc k) (suc m) n h g =
     ∙ sym (digits_more m n l))
     (both (ltb n 10))
 
-pub decimal-one : (n : ℕ) → n < 10 → decimal n ≡ digit n ∷ []
+pub decimal_one : (n : ℕ) → n < 10 → decimal n ≡ digit n ∷ []
 unfolding decimal
-decimal-one n h = digits-one n n h
+decimal_one n h = digits_one n n h
 
-pub decimal-more : (n : ℕ) → 10 ≤ n → decimal n ≡ decimal (n / 10) ++ (digit (n % 10) ∷ [])
+pub decimal_more : (n : ℕ) → 10 ≤ n → decimal n ≡ decimal (n / 10) ++ (digit (n % 10) ∷ [])
 unfolding decimal
-decimal-more n h =
+decimal_more n h =
     digits_more n n h
     ∙ ap (λ (x : List ℕ). x ++ (digit (n % 10) ∷ [])) (digits_same n (suc (n / 10)) (n / 10) (omega arith) (omega arith))
 
 -- ---- a number below 10 ^ k has at most k digits, where k is not 0
 
-pub decimal-short : (k n : ℕ) → n < 10 ^ suc k → length (decimal n) ≤ suc k
-decimal-short zero n h = let e = ap length (decimal-one n (omega (arith, pow-suc 10 0))) in omega arith
-decimal-short (suc k) n h =
+pub decimal_short : (k n : ℕ) → n < 10 ^ suc k → length (decimal n) ≤ suc k
+decimal_short zero n h = let e = ap length (decimal_one n (omega (arith, pow-suc 10 0))) in omega arith
+decimal_short (suc k) n h =
     ⊎_elim
-    (λ e. let o = ap length (decimal-one n (ltb-true n 10 e)) in omega arith)
+    (λ e. let o = ap length (decimal_one n (ltb-true n 10 e)) in omega arith)
     (λ e.
-    let o = ap length (decimal-more n (ltb-false n 10 e)) ∙ length-append (decimal (n / 10)) (digit (n % 10) ∷ []) in
-    let r = decimal-short k (n / 10) (omega (arith, pow-suc 10 (suc k))) in
+    let o = ap length (decimal_more n (ltb-false n 10 e)) ∙ length-append (decimal (n / 10)) (digit (n % 10) ∷ []) in
+    let r = decimal_short k (n / 10) (omega (arith, pow-suc 10 (suc k))) in
     omega arith)
     (both (ltb n 10))
 
 -- a machine's number has at most 20 digits
 pub machine_short : (n : ℕ) → n < 2 ^ 64 → length (decimal n) ≤ 20
-machine_short n h = decimal-short 19 n (omega arith)
+machine_short n h = decimal_short 19 n (omega arith)
 
 -- and one below 2 ^ 16 at most 5
 pub half_short : (n : ℕ) → n < 2 ^ 16 → length (decimal n) ≤ 5
-half_short n h = decimal-short 4 n (omega arith)
+half_short n h = decimal_short 4 n (omega arith)

@@ -9,6 +9,6 @@ unfolding with_text
 text_after x [] b = refl
 text_after x (byte ∷ a) b = text_after (with_byte x byte) a b
 
-pub byte-alone : (x : Lent) (byte : ℕ) → with_text x (byte ∷ []) ≡ with_byte x byte
+pub byte_alone : (x : Lent) (byte : ℕ) → with_text x (byte ∷ []) ≡ with_byte x byte
 unfolding with_text
-byte-alone x byte = refl
+byte_alone x byte = refl

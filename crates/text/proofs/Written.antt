@@ -66,9 +66,9 @@ module _ (start text : List ℕ) (place : Place) (page : List ℕ) (w : Written 
       }
 
 -- so for a byte, and for a text byte by byte
-then-byte : (start text : List ℕ) (x : Lent) (byte : ℕ) → Written start text x.place x.page → Written start (text ++ (byte ∷ [])) (with_byte x byte).place (with_byte x byte).page
+then_byte : (start text : List ℕ) (x : Lent) (byte : ℕ) → Written start text x.place x.page → Written start (text ++ (byte ∷ [])) (with_byte x byte).place (with_byte x byte).page
 unfolding with_byte
-then-byte start text x byte w =
+then_byte start text x byte w =
     ⊎_elim
     (λ e. rw e (byte_fits start text x.place x.page w byte (ltb-true _ _ e)))
     (λ e. rw e (byte_past start text x.place x.page w byte (ltb-false _ _ e)))
@@ -79,7 +79,7 @@ then_text : (start before : List ℕ) (x : Lent) (text : List ℕ) → Written s
 unfolding with_text
 then_text start before x [] w = rw append-nil w
 then_text start before x (byte ∷ more) w =
-    rw append_assoc at (then_text start (before ++ (byte ∷ [])) (with_byte x byte) more (then-byte start before x byte w))
+    rw append_assoc at (then_text start (before ++ (byte ∷ [])) (with_byte x byte) more (then_byte start before x byte w))
 
 pub from_start : (start text : List ℕ) → Written start text (with_text (lent (place_at 0 true) start) text).place (with_text (lent (place_at 0 true) start) text).page
 from_start start text = then_text start [] (lent (place_at 0 true) start) text (nothing start)

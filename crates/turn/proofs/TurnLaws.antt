@@ -13,7 +13,7 @@ use Rattle.turn.specs.Turn.{is_missed, view_of, fault_after, owner_turn, other_t
 use Rattle.turn.specs.declared.Seat.{Seat}
 use Rattle.turn.specs.declared.Slot.{Slot}
 use Rattle.turn.specs.declared.Turn.{Turn}
-use Rattle.turn.proofs.GoneLaws.{without-all_le}
+use Rattle.turn.proofs.GoneLaws.{without_all_le}
 
 -- ---- the four ways of a turn
 
@@ -69,11 +69,11 @@ module _ (c : Slot) (p : ℕ) (s : Seat) where
       turn_elim c p s (λ t. t.seat.set ≤ s.set)
       (λ h. le_refl s.set)
       (λ h e. le_refl s.set)
-      (λ h n g. without-all_le s.set (gone_by p c.owner (decided (view_of c p) s.ack s.doubt).removal))
+      (λ h n g. without_all_le s.set (gone_by p c.owner (decided (view_of c p) s.ack s.doubt).removal))
       (λ h n g. le_refl s.set)
 
-  pub fault-by : s.fault ≤ c.since → (turn_of c p s).seat.fault ≤ c.since
-  fault-by l =
+  pub fault_by : s.fault ≤ c.since → (turn_of c p s).seat.fault ≤ c.since
+  fault_by l =
       turn_elim c p s (λ t. t.seat.fault ≤ c.since)
       (λ h. l)
       (λ h e. fault_le c.send c.since s.fault l)

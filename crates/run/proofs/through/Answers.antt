@@ -17,7 +17,7 @@ use Rattle.run.specs.Inside.{given_by}
 use Rattle.run.specs.declared.marks.Gathered.{Gathered}
 use Rattle.run.specs.declared.marks.SlotMarks.{SlotMarks}
 use Rattle.run.proofs.Gathering.{Whole, all_gathered}
-use Rattle.run.proofs.Running.{bench, marks_on, Going, fresh-given, going_start, going_mark, going_over, spoken-given, going_differs, going_stops, going_on, leaves}
+use Rattle.run.proofs.Running.{bench, marks_on, Going, fresh_given, going_start, going_mark, going_over, spoken_given, going_differs, going_stops, going_on, leaves}
 use Rattle.run.proofs.through.Goals as goal
 use Rattle.run.proofs.through.Goals.{then-next-sheet+else-mark-at, else-next-sheet}
 
@@ -29,7 +29,7 @@ said : (sheet : Sheet) (r : Ring) (g : Gathered) (at : ℕ) {all : Result} {trai
     → x ≡ spoken_on (marks_on sheet (bench r trail)) (bench r trail)
 said sheet r g at go good early whole given e =
     let o = owner_at sheet at in
-    e ∙ ap (λ (x : SlotMarks). heard_as (spoken_by o (seat_of r o).set (seat_of r o).ack x.send)) given ∙ spoken-given go good early whole
+    e ∙ ap (λ (x : SlotMarks). heard_as (spoken_by o (seat_of r o).set (seat_of r o).ack x.send)) given ∙ spoken_given go good early whole
 
 -- the step is given the slot's marks
 promise : (sheet : Sheet) (r : Ring) (g : Gathered) (at : ℕ) {trail : List ℕ} {marks : SlotMarks} {s : Stepped} {t' : List ℕ}
@@ -39,7 +39,7 @@ promise sheet r g at {trail} {marks} {s} {t'} given p = subst (λ (x : SlotMarks
 
 pub loop-at-init : goal.loop-at-init
 loop-at-init c =
-    let e = fresh-given c.args.sheet c.requires _ c.fresh.ensures in
+    let e = fresh_given c.args.sheet c.requires _ c.fresh.ensures in
     rw (e, c.none_gathered-gathered.ensures) (going_start c.args.sheet c.args.trail.now)
 
 pub loop-at-preserved-then-mark-at : goal.loop-at-preserved-then-mark-at

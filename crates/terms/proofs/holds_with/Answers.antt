@@ -4,7 +4,7 @@ use Rattle.std.proofs.Common.{◌≡◌, ℕ, ◌≤◌, Bool, true, false, cond
 use lib.Dec.{leb}
 use Rattle.lists.specs.Counted.{all_below}
 use Rattle.lists.proofs.Counted.{count_le}
-use Rattle.lists.proofs.Tests.{all-fails}
+use Rattle.lists.proofs.Tests.{all_fails}
 use Rattle.terms.specs.Search.{by_step, keeps_apart, sound_after, holds_with}
 use Rattle.terms.proofs.holds_with.Goals as goal
 
@@ -18,7 +18,7 @@ returns-then-not-keeps_apart c =
     let a = c.args in
     let f = get_or a.faults a.p 0 in
     let t : ℕ → Bool = λ q. keeps_apart a.n a.p f q (get_or a.faults q 0) in
-    sym (ap (λ (b : Bool). b && leb 2 (sound_after a.faults f a.n)) (all-fails t a.n c.loop-q.q c.loop-q-test.true (sym c.keeps_apart.ensures ∙ c.if-not-keeps_apart.true)))
+    sym (ap (λ (b : Bool). b && leb 2 (sound_after a.faults f a.n)) (all_fails t a.n c.loop-q.q c.loop-q-test.true (sym c.keeps_apart.ensures ∙ c.if-not-keeps_apart.true)))
 
 pub overflow_add-sound : goal.overflow_add-sound
 overflow_add-sound c =

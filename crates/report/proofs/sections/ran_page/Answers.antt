@@ -9,7 +9,7 @@ use Rattle.ring.specs.contracts.Verdict.{the_type}
 use Rattle.run.specs.Outcome.{heard}
 use Rattle.report.specs.Page.{result_of}
 use Rattle.report.proofs.Writing.{then, same, looser}
-use Rattle.report.proofs.PageLaws.{page-printed}
+use Rattle.report.proofs.PageLaws.{page_printed}
 use Rattle.report.proofs.sections.ran_page.Goals as goal
 
 -- a verdict that is not refused is one of the two others
@@ -24,5 +24,5 @@ returns c =
     let a = c.args in
     let can = sym c.printable.ensures ∙ c.if-not-printable.false in
     looser (omega arith)
-    (same (page-printed (result_of a.ran a.trail.now) (heard a.bus) a.verdict (one_of-two a.verdict c.in_default.not-Refused) can)
+    (same (page_printed (result_of a.ran a.trail.now) (heard a.bus) a.verdict (one_of-two a.verdict c.in_default.not-Refused) can)
     (then c.up_to_faults-next.ensures c.faults_line.ensures))

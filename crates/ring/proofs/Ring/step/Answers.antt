@@ -14,10 +14,10 @@ use Rattle.ring.specs.Inside.{Drawable, drawn_of}
 use Rattle.ring.specs.declared.Ring.{Ring}
 use Rattle.ring.specs.declared.draw.Drawn.{Drawn}
 use Rattle.ring.specs.declared.StepAnswer.TheVariants.{Taken, Refused}
-use Rattle.ring.proofs.Checked.{Valid, ring-valid, owner-below}
-use Rattle.ring.proofs.Drawing.{counts-few}
-use Rattle.ring.proofs.Records.{write-none}
-use Rattle.ring.proofs.Refusing.{no_ring, wrong-mark, at_the_end, no_room, all_checked, refuse, take}
+use Rattle.ring.proofs.Checked.{Valid, ring_valid, owner_below}
+use Rattle.ring.proofs.Drawing.{counts_few}
+use Rattle.ring.proofs.Records.{write_none}
+use Rattle.ring.proofs.Refusing.{no_ring, wrong_mark, at_the_end, no_room, all_checked, refuse, take}
 use Rattle.ring.proofs.Ring.step.Goals as goal
 
 -- ---- the ring that came
@@ -28,7 +28,7 @@ module _ (r : Ring) (trail : List ℕ) (room : ℕ) (lent : room ≡ room_for (l
   told_ring e h = ap (is_ring r) (sym lent) ∙ sym e ∙ h
 
 owner_is : (r : Ring) (room : ℕ) → Valid r room → r.time % r.n < seats_most
-owner_is r room v = omega (arith, owner-below _ _ v, v.most)
+owner_is r room v = omega (arith, owner_below _ _ v, v.most)
 
 -- ---- its slot
 
@@ -59,20 +59,20 @@ returns-then-not-is_ring c = let a = c.args in
 
 pub nonzero_rem-owner : goal.nonzero_rem-owner
 nonzero_rem-owner c =
-    let v = ring-valid _ _ (told_ring c.args.self c.args.trail.now _ c.room_for-room.ensures c.is_ring.ensures c.if-not-is_ring.false) in
+    let v = ring_valid _ _ (told_ring c.args.self c.args.trail.now _ c.room_for-room.ensures c.is_ring.ensures c.if-not-is_ring.false) in
     omega (arith, v.least)
 
 pub bounds-sets-owner : goal.bounds-sets-owner
 bounds-sets-owner c =
-    owner_is _ _ (ring-valid _ _ (told_ring c.args.self c.args.trail.now _ c.room_for-room.ensures c.is_ring.ensures c.if-not-is_ring.false))
+    owner_is _ _ (ring_valid _ _ (told_ring c.args.self c.args.trail.now _ c.room_for-room.ensures c.is_ring.ensures c.if-not-is_ring.false))
 
 pub bounds-acks-owner : goal.bounds-acks-owner
 bounds-acks-owner c =
-    owner_is _ _ (ring-valid _ _ (told_ring c.args.self c.args.trail.now _ c.room_for-room.ensures c.is_ring.ensures c.if-not-is_ring.false))
+    owner_is _ _ (ring_valid _ _ (told_ring c.args.self c.args.trail.now _ c.room_for-room.ensures c.is_ring.ensures c.if-not-is_ring.false))
 
 pub overflow_add-slot : goal.overflow_add-slot
 overflow_add-slot c =
-    let v = ring-valid _ _ (told_ring c.args.self c.args.trail.now _ c.room_for-room.ensures c.is_ring.ensures c.if-not-is_ring.false) in
+    let v = ring_valid _ _ (told_ring c.args.self c.args.trail.now _ c.room_for-room.ensures c.is_ring.ensures c.if-not-is_ring.false) in
     omega (arith, v.soon)
 
 pub returns-then-not-marks_stand : goal.returns-then-not-marks_stand
@@ -81,7 +81,7 @@ returns-then-not-marks_stand c =
     let ring = told_ring a.self a.trail.now _ c.room_for-room.ensures c.is_ring.ensures c.if-not-is_ring.false in
     rw c.refused-then-not-marks_stand.ensures
     (refuse a.self a.send a.receive a.trail.now (Refused WrongMark a.self.time) (number_of WrongMark) a.self.time refl
-    (wrong-mark a.self a.send a.receive (length a.trail.now) ring (sym c.marks_stand.ensures ∙ c.if-not-marks_stand.true)))
+    (wrong_mark a.self a.send a.receive (length a.trail.now) ring (sym c.marks_stand.ensures ∙ c.if-not-marks_stand.true)))
 
 pub returns-then-time-eq-SLOTS_MOST : goal.returns-then-time-eq-SLOTS_MOST
 returns-then-time-eq-SLOTS_MOST c =
@@ -95,14 +95,14 @@ returns-then-time-eq-SLOTS_MOST c =
 pub draw-drawn-requires : goal.draw-drawn-requires
 draw-drawn-requires c =
     let a = c.args in
-    let v = ring-valid _ _ (told_ring a.self a.trail.now _ c.room_for-room.ensures c.is_ring.ensures c.if-not-is_ring.false) in
+    let v = ring_valid _ _ (told_ring a.self a.trail.now _ c.room_for-room.ensures c.is_ring.ensures c.if-not-is_ring.false) in
     drawable a.self a.send a.receive c.speak.result c.speak.ensures _ v
 
 pub overflow_add-total : goal.overflow_add-total
 overflow_add-total c =
     let a = c.args in
-    let v = ring-valid _ _ (told_ring a.self a.trail.now _ c.room_for-room.ensures c.is_ring.ensures c.if-not-is_ring.false) in
-    omega (arith, v.fits, v.most, drawn_count a.self a.send a.receive c.speak.result c.speak.ensures c.draw-drawn.ensures, counts-few a.self (slot_of a.self a.send a.receive) a.self.n)
+    let v = ring_valid _ _ (told_ring a.self a.trail.now _ c.room_for-room.ensures c.is_ring.ensures c.if-not-is_ring.false) in
+    omega (arith, v.fits, v.most, drawn_count a.self a.send a.receive c.speak.result c.speak.ensures c.draw-drawn.ensures, counts_few a.self (slot_of a.self a.send a.receive) a.self.n)
 
 pub returns-then-room-total : goal.returns-then-room-total
 returns-then-room-total c =
@@ -128,12 +128,12 @@ returns-then-drawn-eq0 c =
     (all_checked a.self a.send a.receive (length a.trail.now) ring marks (ne_eqb a.self.time slots_most c.if-time-eq-SLOTS_MOST.false)
     (le-leb (a.self.records + count_in a.self s) (room_for (length a.trail.now)) (omega arith)))
     (ap (λ (x : Drawn). with_counts x.ring x.ring.n (a.self.time + 1) (a.self.records + x.count)) drawn)
-    (sym (write-none a.self s a.trail.now a.self.records (sym many ∙ c.if-drawn-eq0.true))))
+    (sym (write_none a.self s a.trail.now a.self.records (sym many ∙ c.if-drawn-eq0.true))))
 
 pub write-requires-clause-drawable : goal.write-requires-clause-drawable
 write-requires-clause-drawable c =
     let a = c.args in
-    let v = ring-valid _ _ (told_ring a.self a.trail.now _ c.room_for-room.ensures c.is_ring.ensures c.if-not-is_ring.false) in
+    let v = ring_valid _ _ (told_ring a.self a.trail.now _ c.room_for-room.ensures c.is_ring.ensures c.if-not-is_ring.false) in
     drawable a.self a.send a.receive c.speak.result c.speak.ensures _ v
 
 pub returns : goal.returns

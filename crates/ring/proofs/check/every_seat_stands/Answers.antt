@@ -1,7 +1,7 @@
 -- `every_seat_stands`: before seat p every seat below it stands. Assumes nothing.
 use Rattle.std.proofs.Common.{◌≡◌, ◌∙◌, sym, ap, arith, ℕ, Bool}
 use Rattle.lists.specs.Counted.{all_below}
-use Rattle.lists.proofs.Tests.{all-fails}
+use Rattle.lists.proofs.Tests.{all_fails}
 use Rattle.ring.specs.Ring.{seat_of, seat_stands, every_seat_stands}
 use Rattle.ring.specs.declared.Ring.{Ring}
 use Rattle.ring.proofs.check.every_seat_stands.Goals as goal
@@ -13,7 +13,7 @@ pub returns-then-not-seat_stands : goal.returns-then-not-seat_stands
 unfolding every_seat_stands stands
 returns-then-not-seat_stands c =
     let r = c.args.ring in
-    sym (all-fails (stands r) 32 c.loop-p.p c.loop-p-test.true (sym c.seat_stands.ensures ∙ c.if-not-seat_stands.true))
+    sym (all_fails (stands r) 32 c.loop-p.p c.loop-p-test.true (sym c.seat_stands.ensures ∙ c.if-not-seat_stands.true))
 
 pub returns : goal.returns
 unfolding every_seat_stands stands

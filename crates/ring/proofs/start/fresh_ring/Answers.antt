@@ -2,12 +2,12 @@
 use Rattle.std.proofs.Common.{rules, ◌≡◌, ◌∙◌, ap, arith, ℕ}
 use Rattle.ring.specs.Ring.{with_counts, fresh_seat, fresh_ring}
 use Rattle.ring.specs.declared.Ring.{Ring}
-use Rattle.ring.proofs.Starting.{begun, filled, begun-none, begun-next}
+use Rattle.ring.proofs.Starting.{begun, filled, begun_none, begun_next}
 use Rattle.ring.proofs.start.fresh_ring.Goals as goal
 
 pub loop-p-init : goal.loop-p-init
 loop-p-init c = let n = c.args.n in
-    (search rules, ap (λ (r : Ring). with_counts r n r.time r.records) c.zero_ring-ring.ensures ∙ begun-none n)
+    (search rules, ap (λ (r : Ring). with_counts r n r.time r.records) c.zero_ring-ring.ensures ∙ begun_none n)
 
 pub loop-p-preserved : goal.loop-p-preserved
 loop-p-preserved c =
@@ -16,7 +16,7 @@ loop-p-preserved c =
       search rules,
       ap (λ (x : ℕ). filled c.loop-p.ring p x) c.full-full.ensures
           ∙ ap (λ (x : Ring). filled x p (fresh_seat n).set) c.loop-p.invariant.1
-          ∙ begun-next n p (omega arith),
+          ∙ begun_next n p (omega arith),
     )
 
 pub returns : goal.returns

@@ -6,7 +6,7 @@ use Rattle.sheet.specs.Marks.{no_mark, mark_line}
 use Rattle.sheet.specs.Sheets.{no_marks}
 use Rattle.sheet.specs.Inside.{offence_of}
 use Rattle.sheet.proofs.EntryLaws.{begins, goes_on, stops, ends}
-use Rattle.sheet.proofs.MarkLaws.{good-mark}
+use Rattle.sheet.proofs.MarkLaws.{good_mark}
 use Rattle.sheet.proofs.marks.mark_lines.Goals as goal
 
 pub loop-k-init : goal.loop-k-init
@@ -29,12 +29,12 @@ returns-in-Bad c =
 -- a mark without an offence is within its limits
 pub overflow_cast-last : goal.overflow_cast-last
 overflow_cast-last c =
-    let g = good-mark _ _ _ _ (sym c.first_offence-verdict.ensures ∙ ap offence_of c.in_default-verdict.is) in
+    let g = good_mark _ _ _ _ (sym c.first_offence-verdict.ensures ∙ ap offence_of c.in_default-verdict.is) in
     omega (arith, g.time)
 
 pub overflow_cast-last-in-loop-k : goal.overflow_cast-last-in-loop-k
 overflow_cast-last-in-loop-k c =
-    let g = good-mark _ _ _ _ (sym c.first_offence-verdict.ensures ∙ ap offence_of c.in_default-verdict.is) in
+    let g = good_mark _ _ _ _ (sym c.first_offence-verdict.ensures ∙ ap offence_of c.in_default-verdict.is) in
     omega (arith, g.seat)
 
 pub loop-k-preserved : goal.loop-k-preserved

@@ -2,10 +2,10 @@
 use Rattle.std.proofs.Common.{arith}
 use Rattle.limits.specs.Limits.{module_most}
 use Rattle.limits.specs.declared.Refusal.TheVariants.{ModuleTwice}
-use Rattle.sheet_lines.proofs.LineLaws.{line-within}
+use Rattle.sheet_lines.proofs.LineLaws.{line_within}
 use Rattle.sheet.specs.Entries.{module_line}
-use Rattle.sheet.proofs.EntryLaws.{is-new, not_new, goes_on, stops, ends}
-use Rattle.sheet.proofs.SheetLaws.{found-by}
+use Rattle.sheet.proofs.EntryLaws.{is_new_lem, not_new, goes_on, stops, ends}
+use Rattle.sheet.proofs.SheetLaws.{found_by}
 use Rattle.sheet.proofs.modules.module_lines.Goals as goal
 use Rattle.sheet.proofs.modules.module_lines.Goals.{else-lines-test, then-lines-test+in-Found+then-loop-j-test+then-list-j}
 
@@ -16,13 +16,13 @@ returns-in_default c =
     rw (g.is, stops _ _ _ _ _ _ _ c.lines.invariant c.lines-test.true g.field-0 g.field-1 (rw (← c.line-one.ensures, g.is)))
 
 pub overflow_cast-number : goal.overflow_cast-number
-overflow_cast-number c = omega (arith, line-within 1 module_most _ _ _ _ (found-by c.line-one.ensures c.in-Found.is))
+overflow_cast-number c = omega (arith, line_within 1 module_most _ _ _ _ (found_by c.line-one.ensures c.in-Found.is))
 
 pub lines-preserved : goal.lines-preserved
 unfolding module_line
 lines-preserved c =
     let o = c.lines in
-    let u = is-new c.in-Found.value o.k o.list (λ i h. c.loop-j.invariant.1 i (omega arith)) in
+    let u = is_new_lem c.in-Found.value o.k o.list (λ i h. c.loop-j.invariant.1 i (omega arith)) in
     goes_on _ _ _ _ _ _ _ o.invariant c.lines-test.true _ _ (rw (← c.line-one.ensures, c.in-Found.is, u))
 
 pub returns-then-k-count : goal.returns-then-k-count

@@ -3,8 +3,8 @@ use Rattle.std.proofs.Common.{arith, ◌≡◌, ◌≤◌, sym, ap, ◌∙◌}
 use Rattle.sheet_lines.specs.Found.{found}
 use Rattle.sheet_lines.specs.Bytes.{is_digit, byte_at}
 use Rattle.sheet_lines.specs.Pieces.{found_of}
-use Rattle.sheet_lines.proofs.ByteLaws.{byte-found}
-use Rattle.sheet_lines.proofs.NumberLaws.{digit_range, digits_stop, digits-go, digits-end, below_more, below-small}
+use Rattle.sheet_lines.proofs.ByteLaws.{byte_found}
+use Rattle.sheet_lines.proofs.NumberLaws.{digit_range, digits_stop, digits_go, digits_end, below_more, below_small}
 use Rattle.sheet_lines.proofs.numbers.digits.Goals as goal
 
 pub returns-in_default : goal.returns-in_default
@@ -15,29 +15,29 @@ returns-in_default c =
 pub overflow_mul-value : goal.overflow_mul-value
 overflow_mul-value c =
     let l = c.loop-left in
-    omega (arith, below-small l.left l.value (omega arith) l.invariant.0 l.invariant.1)
+    omega (arith, below_small l.left l.value (omega arith) l.invariant.0 l.invariant.1)
 
 pub overflow_sub-value : goal.overflow_sub-value
 overflow_sub-value c =
-    let d : (48 ≤ c.in-Found.digit) × (c.in-Found.digit ≤ 57) = digit_range _ (byte-found _ _ _ _ _ (sym c.byte-one.ensures ∙ ap found_of c.in-Found.is)).passes in
+    let d : (48 ≤ c.in-Found.digit) × (c.in-Found.digit ≤ 57) = digit_range _ (byte_found _ _ _ _ _ (sym c.byte-one.ensures ∙ ap found_of c.in-Found.is)).passes in
     omega arith
 
 pub overflow_add-value : goal.overflow_add-value
 overflow_add-value c =
     let l = c.loop-left in
-    let d : (48 ≤ c.in-Found.digit) × (c.in-Found.digit ≤ 57) = digit_range _ (byte-found _ _ _ _ _ (sym c.byte-one.ensures ∙ ap found_of c.in-Found.is)).passes in
-    omega (arith, below-small l.left l.value (omega arith) l.invariant.0 l.invariant.1)
+    let d : (48 ≤ c.in-Found.digit) × (c.in-Found.digit ≤ 57) = digit_range _ (byte_found _ _ _ _ _ (sym c.byte-one.ensures ∙ ap found_of c.in-Found.is)).passes in
+    omega (arith, below_small l.left l.value (omega arith) l.invariant.0 l.invariant.1)
 
 pub loop-left-preserved : goal.loop-left-preserved
 loop-left-preserved c =
     let l = c.loop-left in
     -- the digit of this turn
     let here : byte_at is_digit c.args.s.now l.at ≡ found c.in-Found.digit c.in-Found.next = sym c.byte-one.ensures ∙ ap found_of c.in-Found.is in
-    let d : (48 ≤ c.in-Found.digit) × (c.in-Found.digit ≤ 57) = digit_range _ (byte-found _ _ _ _ _ here).passes in (
+    let d : (48 ≤ c.in-Found.digit) × (c.in-Found.digit ≤ 57) = digit_range _ (byte_found _ _ _ _ _ here).passes in (
       omega arith,
       below_more l.left l.value _ (omega arith) l.invariant.0 (omega arith) l.invariant.1,
-      sym (digits-go l.left l.value _ l.at _ _ (omega arith) here) ∙ l.invariant.2,
+      sym (digits_go l.left l.value _ l.at _ _ (omega arith) here) ∙ l.invariant.2,
     )
 
 pub returns : goal.returns
-returns c = let l = c.loop-left in sym (digits-end l.left l.value _ l.at (omega arith)) ∙ l.invariant.2
+returns c = let l = c.loop-left in sym (digits_end l.left l.value _ l.at (omega arith)) ∙ l.invariant.2
