@@ -52,7 +52,7 @@ fn find(file: &[u8], from: usize, byte: u8) -> usize
     file.len()
 }
 
-// The sheet whose `=` stands at this place, and the place after it.
+// The sheet whose `=` stands at this place, and the place after it. An error is of what is written alone.
 fn one(out: &mut impl Write, file: &[u8], at: usize) -> io::Result<usize>
     requires { at < length file.now }
     ensures { IfOk result (λ r. (at < r) × (r ≤ length file.now)) }
