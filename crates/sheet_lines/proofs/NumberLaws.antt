@@ -12,9 +12,14 @@ use Rattle.lists.proofs.Tests.{and-true}
 use Rattle.limits.specs.declared.Refusal.{Refusal}
 use Rattle.sheet_lines.specs.Found.{found, offence}
 use Rattle.sheet_lines.specs.Bytes.{is_digit, byte_at, digits_at}
+use Rattle.sheet_lines.proofs.ByteLaws.{byte_found}
 
 pub digit_range : (b : ℕ) → is_digit b ≡ true → (48 ≤ b) × (b ≤ 57)
 digit_range b e = let p = and-true (leb 48 b) (leb b 57) e in (leb-true 48 b p.0, leb-true b 57 p.1)
+
+-- a digit that was found is one
+pub digit_found : (s : List ℕ) (at digit next : ℕ) → byte_at is_digit s at ≡ found digit next → (48 ≤ digit) × (digit ≤ 57)
+digit_found s at digit next e = digit_range digit (byte_found is_digit s at digit next e).passes
 
 -- ---- the digits after the first
 

@@ -8,9 +8,9 @@ use Rattle.lists.proofs.Tests.{all_fails}
 use Rattle.terms.specs.Search.{by_step, keeps_apart, sound_after, holds_with}
 use Rattle.terms.proofs.holds_with.Goals as goal
 
-one_at-most : (b : Bool) → cond b 1 0 ≤ 1
-one_at-most true = omega arith
-one_at-most false = omega arith
+one_at_most : (b : Bool) → cond b 1 0 ≤ 1
+one_at_most true = omega arith
+one_at_most false = omega arith
 
 pub returns-then-not-keeps_apart : goal.returns-then-not-keeps_apart
 unfolding holds_with
@@ -25,7 +25,7 @@ overflow_add-sound c =
     let a = c.args in
     let f = get_or a.faults a.p 0 in
     let q = c.loop-q.q in
-    omega (arith, count_le (λ q. not (by_step f (get_or a.faults q 0))) q, c.loop-q.invariant.counted, one_at-most (not (by_step f (get_or a.faults q 0))), c.sound_after-sound.ensures)
+    omega (arith, count_le (λ q. not (by_step f (get_or a.faults q 0))) q, c.loop-q.invariant.counted, one_at_most (not (by_step f (get_or a.faults q 0))), c.sound_after-sound.ensures)
 
 pub returns : goal.returns
 unfolding holds_with

@@ -13,16 +13,16 @@ use Rattle.report.proofs.PageLaws.{page_printed}
 use Rattle.report.proofs.sections.ran_page.Goals as goal
 
 -- a verdict that is not refused is one of the two others
-one_of-two : (v : Verdict) → ((why : Refusal) (place : ℕ) → v ≡ verdicts.Refused why place → ⊥)
+one_of_two : (v : Verdict) → ((why : Refusal) (place : ℕ) → v ≡ verdicts.Refused why place → ⊥)
     → (tag_of the_type v ≡ 0) ⊎ (tag_of the_type v ≡ 1)
-one_of-two verdicts.Within n = inl refl
-one_of-two (verdicts.Outside t) n = inr refl
-one_of-two (verdicts.Refused why place) n = absurd (n why place refl)
+one_of_two verdicts.Within n = inl refl
+one_of_two (verdicts.Outside t) n = inr refl
+one_of_two (verdicts.Refused why place) n = absurd (n why place refl)
 
 pub returns : goal.returns
 returns c =
     let a = c.args in
     let can = sym c.printable.ensures ∙ c.if-not-printable.false in
     looser (omega arith)
-    (same (page_printed (result_of a.ran a.trail.now) (heard a.bus) a.verdict (one_of-two a.verdict c.in_default.not-Refused) can)
+    (same (page_printed (result_of a.ran a.trail.now) (heard a.bus) a.verdict (one_of_two a.verdict c.in_default.not-Refused) can)
     (then c.up_to_faults-next.ensures c.faults_line.ensures))

@@ -1,11 +1,17 @@
 -- `verdict`: by the first step up to which the terms fail. Assumes nothing.
-use Rattle.std.proofs.Common.{◌≡◌, refl, sym, ◌∙◌, true}
-use Rattle.limits.specs.Limits.{room_most}
+use Rattle.std.proofs.Common.{◌≡◌, ℕ, refl, sym, ◌∙◌, true, cond}
+use Rattle.limits.specs.Limits.{room_most, seats_stand}
 use Rattle.terms.specs.Terms.{first_failing}
 use Rattle.ring.specs.Ring.{is_ring}
+use Rattle.ring.specs.declared.Ring.{Ring}
 use Rattle.ring.proofs.Checked.{ring_valid, seats_stand_lem}
 use Rattle.ring.proofs.Judging.{no_verdict, terms_within, terms_outside}
 use Rattle.ring.proofs.Ring.verdict.Goals as goal
+
+-- a ring has a number of seats, so what the search gives is the first step up to which the terms fail
+first_is : (r : Ring) {first : ℕ} → is_ring r room_most ≡ true → first ≡ cond (seats_stand r.n) (first_failing r.n r.faults r.time) r.time
+    → first_failing r.n r.faults r.time ≡ first
+first_is r ring e = sym (e ∙ rw (seats_stand_lem r room_most (ring_valid r room_most ring)))
 
 pub returns-then-not-is_ring : goal.returns-then-not-is_ring
 returns-then-not-is_ring c =
@@ -13,16 +19,10 @@ returns-then-not-is_ring c =
 
 pub returns-then-first-time : goal.returns-then-first-time
 returns-then-first-time c =
-    let r = c.args.self in
-    let ring : is_ring r room_most ≡ true = sym c.is_ring.ensures ∙ c.if-not-is_ring.false in
-    let first : first_failing r.n r.faults r.time ≡ c.first_failing-first.result =
-    sym (c.first_failing-first.ensures ∙ rw (seats_stand_lem r room_most (ring_valid r room_most ring))) in
-    record { verdict = sym (terms_outside r ring c.first_failing-first.result first c.if-first-time.true); ring = refl }
+    let ring = sym c.is_ring.ensures ∙ c.if-not-is_ring.false in
+    record { verdict = sym (terms_outside _ ring _ (first_is c.args.self ring c.first_failing-first.ensures) c.if-first-time.true); ring = refl }
 
 pub returns : goal.returns
 returns c =
-    let r = c.args.self in
-    let ring : is_ring r room_most ≡ true = sym c.is_ring.ensures ∙ c.if-not-is_ring.false in
-    let first : first_failing r.n r.faults r.time ≡ c.first_failing-first.result =
-    sym (c.first_failing-first.ensures ∙ rw (seats_stand_lem r room_most (ring_valid r room_most ring))) in
-    record { verdict = sym (terms_within r ring c.first_failing-first.result first c.if-first-time.false); ring = refl }
+    let ring = sym c.is_ring.ensures ∙ c.if-not-is_ring.false in
+    record { verdict = sym (terms_within _ ring _ (first_is c.args.self ring c.first_failing-first.ensures) c.if-first-time.false); ring = refl }
