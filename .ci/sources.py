@@ -67,7 +67,7 @@ def rust_names(text):
     owner = None
     for line in text.splitlines():
         item = re.match(r"\s*(?:pub(?:\([^)]*\))? |extern \"C\" |const |unsafe )*(fn|struct|enum|const|type|mod) (\w+)", line)
-        begins = re.match(r"(?:impl|(?:pub )?enum|(?:pub )?struct) (\w+).*\{$", line)
+        begins = re.match(r"(?:impl(?:<[^>]*>)?|(?:pub )?enum|(?:pub )?struct) (\w+).*\{$", line)
         if begins:
             owner = begins[1]
         elif line == "}":

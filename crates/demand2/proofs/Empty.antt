@@ -8,18 +8,18 @@ use native.Mathlib.Omega.{arith}
 use lib.Dec.{eqb}
 use lib.ListN.{length, replicate}
 use borrow.Author.Tests.{ne_eqb}
-use Rattle.limits.specs.Refusals.{Told, done, refused}
+use Rattle.std.specs.Prelude.{⊤, Result, Ok, Err}
+use Rattle.limits.specs.Refusals.{Told, done, refused, refused_at, tells}
+use Rattle.limits.specs.declared.Refused.{Refused}
 use Rattle.limits.specs.declared.Refusal.TheVariants.{NotARing, WrongMark, AtTheEnd, NoRoom}
 use Rattle.lists.specs.Counted.{sum}
 use Rattle.seats.specs.Sets.{size_of}
 use Rattle.ring.specs.Ring.{seat_of, fresh_ring, zero_ring, is_ring, every_seat_stands}
 use Rattle.turn.specs.Turn.{turn_of}
-use Rattle.ring.specs.Refusals.{step_tells, step_told}
+use Rattle.ring.specs.Refusals.{step_told}
 use Rattle.ring.specs.Promise.{StepPromise, ring_of, trail_of}
 use Rattle.ring.specs.declared.Ring.{Ring}
 use Rattle.ring.specs.declared.Stepped.{Stepped}
-use Rattle.ring.specs.declared.StepAnswer.{StepAnswer}
-use Rattle.ring.specs.declared.StepAnswer.TheVariants.{Taken, Refused}
 use Rattle.turn.specs.declared.Seat.{Seat}
 use Rattle.steps.specs.Run.{Marks, quiet, send_fault, Bench, told_on, step_on, fresh_bench, Reached, start, taken}
 use Rattle.limits.proofs.Refusals.{not_done}
@@ -158,12 +158,12 @@ inventor_is = record {
 -- ---- and there is a program that keeps the promise, so that the theorems say something
 
 -- an answer in the engine's own type
-answer_of : Told → StepAnswer
-answer_of done = Taken
+answer_of : Told → Result ⊤ Refused
+answer_of done = Ok tt
 answer_of (refused number place) =
-    Refused (cond (eqb number 10) NotARing (cond (eqb number 6) WrongMark (cond (eqb number 9) AtTheEnd NoRoom))) place
+    Err (refused_at (cond (eqb number 10) NotARing (cond (eqb number 6) WrongMark (cond (eqb number 9) AtTheEnd NoRoom))) place)
 
-answer_told : (r : Ring) (send : Bool) (receive bytes : ℕ) (a : Told) → Answered r send receive bytes a → step_tells (answer_of a) ≡ a
+answer_told : (r : Ring) (send : Bool) (receive bytes : ℕ) (a : Told) → Answered r send receive bytes a → tells (answer_of a) ≡ a
 unfolding answer_of
 answer_told r send receive bytes a (not_a_ring h) = refl
 answer_told r send receive bytes a (wrong_mark v w) = refl

@@ -2,6 +2,7 @@
 use mathlib.Core.Path.{◌≡◌, refl, sym, ap, ◌∙◌}
 use mathlib.Core.Bool.{Bool, true, false, not, ◌&&◌, true≢false}
 use Prim.Native.Nat.{ℕ}
+use Rattle.std.proofs.Common.{Option, Some, None}
 use Rattle.seats.specs.Sets.{has_seat}
 use Rattle.seats.proofs.Sets.{without_other}
 use Rattle.ring.specs.Ring.{seat_of, owner_of}
@@ -9,8 +10,6 @@ use Rattle.turn.specs.Turn.{other_turn, turn_of}
 use Rattle.ring.specs.Step.{slot_of}
 use Rattle.turn.specs.declared.Seat.{Seat}
 use Rattle.turn.specs.declared.Slot.{Slot}
-use Rattle.turn.specs.declared.Spoken.{Spoken}
-use Rattle.turn.specs.declared.Spoken.TheVariants.{Nothing, Bit}
 use Rattle.turn.specs.declared.Turn.{Turn}
 use Rattle.turn.proofs.TurnLaws.{turn_out, turn_owner, turn_other, turn_still, turn_elim}
 use Rattle.demand2.specs.Marks.{speaks, unmarked, IdleSend, IdleReceive, OwnReceive}
@@ -19,9 +18,9 @@ use Rattle.demand2.specs.Marks.{speaks, unmarked, IdleSend, IdleReceive, OwnRece
 silent_same : (c : Slot) (p q : ℕ) (s : Seat) → speaks c.spoken ≡ false → other_turn (unmarked c q) p s ≡ other_turn c p s
 silent_same c p q s e = rw (nothing c.spoken e)
   where
-    nothing : (x : Spoken) → speaks x ≡ false → x ≡ Nothing
-    nothing Nothing e = refl
-    nothing (Bit bit) e = absurd (true≢false e)
+    nothing : (x : Option Bool) → speaks x ≡ false → x ≡ None
+    nothing None e = refl
+    nothing (Some bit) e = absurd (true≢false e)
 
 holds_not : (a b c : Bool) → a ≡ true → b ≡ true → (not (not a) && b && c) ≡ false → c ≡ false
 holds_not true true c x y e = e

@@ -11,19 +11,18 @@ use native.Mathlib.Omega.{arith}
 use lib.Dec.{eqb, ltb}
 use lib.ListN.{replicate}
 use borrow.Author.Tests.{eq-eqb, ne_eqb, ltb-true, ltb-false}
+use Rattle.std.specs.Prelude.{Ok}
 use Rattle.limits.specs.Limits.{seats_least, seats_most}
-use Rattle.limits.specs.Refusals.{done}
+use Rattle.limits.specs.Refusals.{done, tells}
 use Rattle.lists.proofs.Tests.{both}
 use Rattle.seats.specs.Sets.{has_seat}
 use Rattle.ring.specs.Ring.{seat_of, fresh_ring, zero_ring, is_ring, every_seat_stands}
-use Rattle.turn.specs.declared.table.Row.{Row}
-use Rattle.turn.specs.Table.{table}
+use Rattle.turn.specs.Table.{Row, table}
 use Rattle.turn.specs.Turn.{other_turn, turn_of}
 use Rattle.ring.specs.Step.{slot_of}
-use Rattle.ring.specs.Refusals.{step_tells, step_told}
+use Rattle.ring.specs.Refusals.{step_told}
 use Rattle.ring.specs.Promise.{StepPromise, ring_of, trail_of}
 use Rattle.ring.specs.declared.Ring.{Ring}
-use Rattle.ring.specs.declared.StepAnswer.TheVariants.{Taken}
 use Rattle.ring.specs.declared.Stepped.{Stepped}
 use Rattle.turn.specs.declared.Seat.{Seat}
 use Rattle.turn.specs.declared.Turn.{Turn}
@@ -47,12 +46,12 @@ pub record Holds (s : Seat) (u : Updated) : Type 0 where
 -- for every step that keeps the engine's promise and is taken: a seat in its own set has the paper's, its
 -- doubt standing for the footnote's words
 abbrev pub PaperStep : Type 0
-PaperStep = (r : Ring) (m : Marks) (t : List ℕ) (s : Stepped) (t' : List ℕ) → StepPromise r m.send m.receive t s t' → step_tells s.answer ≡ done
+PaperStep = (r : Ring) (m : Marks) (t : List ℕ) (s : Stepped) (t' : List ℕ) → StepPromise r m.send m.receive t s t' → tells s.answer ≡ done
     → (p : ℕ) → p < r.n → membership r p p ≡ true → Holds (seat_of s.ring p) (updated r m (seat_of r p).doubt p)
 
 -- and a seat out of its own set is unchanged
 abbrev pub OutStays : Type 0
-OutStays = (r : Ring) (m : Marks) (t : List ℕ) (s : Stepped) (t' : List ℕ) → StepPromise r m.send m.receive t s t' → step_tells s.answer ≡ done
+OutStays = (r : Ring) (m : Marks) (t : List ℕ) (s : Stepped) (t' : List ℕ) → StepPromise r m.send m.receive t s t' → tells s.answer ≡ done
     → (p : ℕ) → membership r p p ≡ false → seat_of s.ring p ≡ seat_of r p
 
 -- along any run, a seat's doubt is true exactly when the last slot that it expected was its own and its bit
@@ -236,7 +235,7 @@ stays = (refl, refl)
 
 -- and that step as one that keeps the engine's promise, by a seat that expects the broadcaster
 kept : StepPromise bench₂.ring false 0 bench₂.trail
-    (record { answer = Taken; ring = ring_of bench₂.ring false 0 bench₂.trail })
+    (record { answer = Ok tt; ring = ring_of bench₂.ring false 0 bench₂.trail })
     (trail_of bench₂.ring false 0 bench₂.trail)
     × (membership bench₂.ring 1 (broadcaster bench₂.ring) ≡ true)
 unfolding bench₀ bench₂ ring_of trail_of step_told is_ring every_seat_stands fresh_ring zero_ring turn_of

@@ -9,19 +9,19 @@ use native.Mathlib.Omega.{arith}
 use lib.Dec.{leb, eqb}
 use lib.ListN.{replicate}
 use borrow.Author.Tests.{leb-true, leb-false, eqb-true, eqb-false, eq-eqb, ne_eqb, le-leb, lt-leb, not-true, not-false}
-use Rattle.limits.specs.Refusals.{Told, done, refused}
+use Rattle.std.specs.Prelude.{Err}
+use Rattle.limits.specs.Refusals.{Told, done, refused, refused_at, tells}
 use Rattle.lists.proofs.Tests.{both, and-true, and_fails}
 use Rattle.seats.specs.Sets.{has_seat, full_set}
 use Rattle.seats.proofs.Sets.{below_full, full_is, none_past, past_has}
 use Rattle.ring.specs.Ring.{is_ring, owner_of, zero_ring, fresh_ring, with_counts, every_seat_stands}
 use Rattle.turn.specs.Turn.{turn_of}
 use Rattle.ring.specs.Step.{slot_of, count_in}
-use Rattle.ring.specs.Refusals.{step_tells, marks_stand, step_told}
+use Rattle.ring.specs.Refusals.{marks_stand, step_told}
 use Rattle.ring.specs.Promise.{StepPromise, ring_of, trail_of}
 use Rattle.trail.specs.Trail.{room_for}
 use Rattle.ring.specs.declared.Ring.{Ring}
 use Rattle.ring.specs.declared.Stepped.{Stepped}
-use Rattle.ring.specs.declared.StepAnswer.TheVariants.{Refused}
 use Rattle.ring.proofs.Refusing as checks
 use Rattle.limits.specs.declared.Refusal.TheVariants.{NoRoom}
 use Rattle.ring.proofs.Checked.{Valid, ring_valid, valid_ring}
@@ -41,7 +41,7 @@ OnlyAnswers = (r : Ring) (send : Bool) (receive bytes : ℕ) (a : Told) → Answ
 -- a step that keeps the engine's promise and is refused: the ring and every byte of the trail are as they came
 abbrev pub RefusedLeaves : Type 0
 RefusedLeaves = (r : Ring) (send : Bool) (receive : ℕ) (t : List ℕ) (s : Stepped) (t' : List ℕ) → StepPromise r send receive t s t'
-    → (number place : ℕ) → step_tells s.answer ≡ refused number place → (s.ring ≡ r) × (t' ≡ t)
+    → (number place : ℕ) → tells s.answer ≡ refused number place → (s.ring ≡ r) × (t' ≡ t)
 
 -- ---- the tests, as the table's words
 
@@ -164,6 +164,6 @@ unfolding step_told is_ring every_seat_stands fresh_ring zero_ring turn_of
 none = refl
 
 -- and the promise is kept of a refused step so
-left_alone : StepPromise (fresh_ring 4) true 0 (replicate 14 7) (record { answer = Refused NoRoom 0; ring = fresh_ring 4 }) (replicate 14 7)
+left_alone : StepPromise (fresh_ring 4) true 0 (replicate 14 7) (record { answer = Err (refused_at NoRoom 0); ring = fresh_ring 4 }) (replicate 14 7)
 unfolding ring_of trail_of step_told is_ring every_seat_stands fresh_ring zero_ring turn_of
 left_alone = record { answer = refl; ring = refl; trail = refl }

@@ -9,19 +9,19 @@ use native.Mathlib.Omega.{arith}
 use lib.Dec.{ltb}
 use lib.ListN.{length, get_or, replicate}
 use borrow.Author.Tests.{ne_eqb, ltb-true, ltb-false}
-use Rattle.limits.specs.Refusals.{done}
+use Rattle.std.specs.Prelude.{Ok}
+use Rattle.limits.specs.Refusals.{done, tells}
 use Rattle.lists.proofs.Tests.{both}
 use Rattle.ring.specs.Ring.{seat_of, fresh_ring, zero_ring, is_ring, every_seat_stands}
 use Rattle.turn.specs.Turn.{turn_of}
 use Rattle.ring.specs.Step.{slot_of, count_in, ring_after, trail_after}
 use Rattle.trail.specs.Trail.{width}
-use Rattle.ring.specs.Refusals.{step_tells, step_told}
+use Rattle.ring.specs.Refusals.{step_told}
 use Rattle.ring.specs.Promise.{StepPromise, ring_of, trail_of}
 use Rattle.ring.specs.declared.Ring.{Ring}
 use Rattle.turn.specs.declared.Seat.{Seat}
 use Rattle.turn.specs.declared.Slot.{Slot}
 use Rattle.ring.specs.declared.Stepped.{Stepped}
-use Rattle.ring.specs.declared.StepAnswer.TheVariants.{Taken}
 use Rattle.steps.proofs.Taken.{told_taken, taken_ring, taken_trail}
 use Rattle.trail.proofs.RecordLaws.{room_bytes}
 use Rattle.steps.proofs.After.{seat_after, seat_beyond, length_after}
@@ -40,7 +40,7 @@ use Rattle.demand2.proofs.Standing.{says_step, ordered_step}
 -- every step that keeps the engine's promise and is taken
 abbrev pub OneStoryEach : Type 0
 OneStoryEach = (r : Ring) (send : Bool) (receive : ℕ) (t : List ℕ) (s : Stepped) (t' : List ℕ) → StepPromise r send receive t s t'
-    → step_tells s.answer ≡ done → OneStory r (slot_of r send receive) t s.ring t'
+    → tells s.answer ≡ done → OneStory r (slot_of r send receive) t s.ring t'
 
 -- ---- the records that tell of one holder and one removed seat
 
@@ -105,7 +105,7 @@ one_story r send receive t s t' p e =
 -- ---- one such step: a fresh ring of 4, a send mark for seat 0, room for 3 records; each of the others removes seat 0 by c
 
 example : StepPromise (fresh_ring 4) true 0 (replicate 15 7)
-    (record { answer = Taken; ring = ring_of (fresh_ring 4) true 0 (replicate 15 7) })
+    (record { answer = Ok tt; ring = ring_of (fresh_ring 4) true 0 (replicate 15 7) })
     (0 ∷ 0 ∷ 1 ∷ 0 ∷ 99 ∷ 0 ∷ 0 ∷ 2 ∷ 0 ∷ 99 ∷ 0 ∷ 0 ∷ 3 ∷ 0 ∷ 99 ∷ [])
 unfolding ring_of trail_of step_told is_ring every_seat_stands fresh_ring zero_ring turn_of
 example = record { answer = refl; ring = refl; trail = refl }

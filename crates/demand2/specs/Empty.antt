@@ -1,19 +1,17 @@
 -- The five empty programs of document 01 in the place of `step`: each as a kind of programs, and one of that
 -- kind written out.
-use Rattle.std.specs.Prelude.{Bool, cond, List, ◌≡◌, ℕ, ◌+◌, ◌*◌, ◌^◌, ◌≤◌, ◌<◌, eqb, replicate}
+use Rattle.std.specs.Prelude.{Bool, ⊤, Result, Ok, Err, cond, List, ◌≡◌, ℕ, ◌+◌, ◌*◌, ◌^◌, ◌≤◌, ◌<◌, eqb, replicate}
 use Rattle.limits.specs.Limits.{seats_least, seats_most, room_most}
-use Rattle.limits.specs.Refusals.{done, refused}
+use Rattle.limits.specs.Refusals.{done, refused, refused_at, tells}
+use Rattle.limits.specs.declared.Refused.{Refused}
 use Rattle.limits.specs.declared.Refusal.TheVariants.{NotARing}
 use Rattle.lists.specs.Counted.{sum}
 use Rattle.seats.specs.Sets.{size_of}
 use Rattle.ring.specs.Ring.{seat_of, with_counts, zero_ring}
-use Rattle.ring.specs.Refusals.{step_tells}
 use Rattle.trail.specs.Trail.{width}
 use Rattle.ring.specs.Promise.{StepPromise, ring_of, trail_of}
 use Rattle.ring.specs.declared.Ring.{Ring}
 use Rattle.ring.specs.declared.Stepped.{Stepped}
-use Rattle.ring.specs.declared.StepAnswer.{StepAnswer}
-use Rattle.ring.specs.declared.StepAnswer.TheVariants.{Taken, Refused}
 use Rattle.steps.specs.Run.{Marks, Bench, Reached}
 
 -- what a program in the place of step makes: its answer with the ring, and the trail after it
@@ -21,7 +19,7 @@ pub record Made : Type 0 where
   pub stepped : Stepped
   pub trail : List ℕ
 
-abbrev pub made : StepAnswer → Ring → List ℕ → Made
+abbrev pub made : Result ⊤ Refused → Ring → List ℕ → Made
 made a r t = record { stepped = record { answer = a; ring = r }; trail = t }
 
 -- a program in the place of step
@@ -41,10 +39,10 @@ Keeps f = (n bytes : ℕ) → seats_least ≤ n → n ≤ seats_most → bytes �
 
 abbrev pub RefusesAll : Program → Type 0
 RefusesAll f = (r : Ring) (send : Bool) (receive : ℕ) (t : List ℕ)
-    → (number : ℕ) × (place : ℕ) × (step_tells (f r send receive t).stepped.answer ≡ refused number place)
+    → (number : ℕ) × (place : ℕ) × (tells (f r send receive t).stepped.answer ≡ refused number place)
 
 abbrev pub refuser : Program
-refuser r send receive t = made (Refused NotARing 0) r t
+refuser r send receive t = made (Err (refused_at NotARing 0)) r t
 
 -- ---- 2: its result is constant
 
@@ -52,7 +50,7 @@ abbrev pub Constant : Program → Type 0
 Constant f = (s : Stepped) × ((r : Ring) (send : Bool) (receive : ℕ) (t : List ℕ) → (f r send receive t).stepped ≡ s)
 
 abbrev pub constantly : Program
-constantly r send receive t = made Taken zero_ring t
+constantly r send receive t = made (Ok tt) zero_ring t
 
 -- ---- 3: it steps without changing anything of any seat, though it may count the time
 
@@ -60,7 +58,7 @@ abbrev pub StandsStill : Program → Type 0
 StandsStill f = (r : Ring) (send : Bool) (receive : ℕ) (t : List ℕ) (p : ℕ) → seat_of (f r send receive t).stepped.ring p ≡ seat_of r p
 
 abbrev pub sleeper : Program
-sleeper r send receive t = made Taken (with_counts r r.n (r.time + 1) r.records) t
+sleeper r send receive t = made (Ok tt) (with_counts r r.n (r.time + 1) r.records) t
 
 -- ---- 4: it applies the rules at time 0, and afterwards only advances the time
 
@@ -69,7 +67,7 @@ FirstOnly f = (r : Ring) (send : Bool) (receive : ℕ) (t : List ℕ) → 0 < r.
 
 abbrev pub first_timer : Program
 first_timer r send receive t =
-    cond (eqb r.time 0) (made Taken (ring_of r send receive t) (trail_of r send receive t)) (sleeper r send receive t)
+    cond (eqb r.time 0) (made (Ok tt) (ring_of r send receive t) (trail_of r send receive t)) (sleeper r send receive t)
 
 -- ---- 5: it invents its record count: in some step taken it is not what the sets have lost
 
@@ -83,10 +81,10 @@ pub record Invents (f : Program) : Type 0 where
   pub run : Reached n (replicate bytes 0) bench
   pub marks : Marks
   pub mask : marks.receive < 2 ^ seats_most
-  pub taken : step_tells (on f bench marks).stepped.answer ≡ done
+  pub taken : tells (on f bench marks).stepped.answer ≡ done
   pub wrong : sum n (λ p. size_of (seat_of (on f bench marks).stepped.ring p).set) + (on f bench marks).stepped.ring.records ≡ n * n → ⊥
 
 abbrev pub inventor : Program
 inventor r send receive t =
     let r' = ring_of r send receive t in
-    made Taken (with_counts r' r'.n r'.time (r'.records + 1)) (trail_of r send receive t)
+    made (Ok tt) (with_counts r' r'.n r'.time (r'.records + 1)) (trail_of r send receive t)

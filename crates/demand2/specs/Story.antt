@@ -2,8 +2,7 @@
 use Rattle.std.specs.Prelude.{Bool, cond, true, not, ◌&&◌, List, ◌⊎◌, ◌≡◌, ℕ, ◌-◌, ◌*◌, ◌≤◌, ◌<◌, length, get_or}
 use Rattle.seats.specs.Sets.{has_seat}
 use Rattle.ring.specs.Ring.{seat_of}
-use Rattle.turn.specs.declared.table.Row.{Row}
-use Rattle.turn.specs.Table.{table, arrived, bit_of}
+use Rattle.turn.specs.Table.{Row, table, arrived, bit_of}
 use Rattle.turn.specs.Turn.{view_of}
 use Rattle.trail.specs.Trail.{width, letter_of}
 use Rattle.ring.specs.declared.Ring.{Ring}

@@ -3,13 +3,13 @@ use mathlib.Core.Path.{◌≡◌, refl, sym, ap}
 use mathlib.Core.Bool.{true}
 use mathlib.Core.List.{List}
 use Prim.Native.Nat.{ℕ, ◌*◌, ◌≤◌, ◌<◌}
+use Rattle.std.specs.Prelude.{Ok}
 use Rattle.limits.specs.Limits.{seats_least, seats_most}
 use Rattle.limits.specs.Refusals as limits
 use Rattle.lists.specs.Counted.{tab}
 use Rattle.ring.specs.Ring.{seat_of}
 use Rattle.ring.specs.Step as step
 use Rattle.ring.specs.declared.Ring.{Ring}
-use Rattle.ring.specs.declared.StepAnswer.TheVariants.{Taken}
 use Rattle.steps.specs.Run.{Marks, Bench, told_on, step_on, Reached}
 use Rattle.sheet.specs.Good.{GoodSheet}
 use Rattle.sheet.specs.declared.Sheet.{Sheet}
@@ -48,7 +48,7 @@ pub record RunHolds (sheet : Sheet) (trail : List ℕ) (x : Result) : Type 0 whe
 step_holds : (n : ℕ) (trail : List ℕ) → seats_least ≤ n → n ≤ seats_most → (b : Bench) (w : Reached n trail b) (m : Marks) → told_on m b ≡ limits.done → StepHolds n trail b w m
 step_holds n trail low high b w m e = record {
   paper = paper_run n trail low high b w m e;
-  story = story.one_story b.ring m.send m.receive b.trail (record { answer = Taken; ring = (step_on m b).ring }) (step_on m b).trail
+  story = story.one_story b.ring m.send m.receive b.trail (record { answer = Ok tt; ring = (step_on m b).ring }) (step_on m b).trail
       (record { answer = sym e; ring = refl; trail = refl }) refl;
 }
 

@@ -4,6 +4,7 @@ use mathlib.Core.List.{List}
 use mathlib.Core.Path.{◌≡◌, sym, ap, ◌∙◌, subst}
 use Prim.Native.Nat.{ℕ, ◌+◌, ◌≤◌, ◌<◌}
 use native.Mathlib.Omega.{arith}
+use Rattle.lists.specs.Kept.{kept}
 use Rattle.limits.specs.Limits.{seats_least, seats_most, room_most}
 use Rattle.limits.specs.Refusals.{done}
 use Rattle.ring.specs.Refusals.{verdict_found, within}
@@ -26,7 +27,7 @@ use Rattle.demand3.proofs.Read.{to_faulty, from_faulty}
 module _ (r : Ring) (room : ℕ) (v : Valid r room) where
   -- every first fault is before the time
   past : {x t : ℕ} → FirstFault r x t → t < r.time
-  past {x} y = omega (arith, y.since, (v.member x y.seat).past)
+  past {x} y = omega (arith, ap kept y.since, (v.member x y.seat).past)
 
   pub apart_of : TermsKept r → Apart (r.n + 1) r r.time
   apart_of w = record { spaced = λ {x} {y} {f} {g} fx fy ne l m. (w g (past fy)).apart.spaced fx fy ne l (omega arith) }

@@ -7,6 +7,7 @@ use native.Mathlib.Omega.{arith}
 use lib.Dec.{leb, ltb}
 use lib.ListN.{get_or}
 use borrow.Author.Tests.{leb-true, leb-false}
+use Rattle.std.specs.Prelude.{Some}
 use Rattle.lists.proofs.Tests.{both}
 use Rattle.seats.specs.Sets.{has_seat}
 use Rattle.ring.specs.Ring.{no_seat}
@@ -33,7 +34,7 @@ late_at_most r a p x t sp fx h =
 
 -- a moment of a run, by what is stated of it
 moment : (a : Run) (p x t k : ℕ) (has : Bool) → ltb p (stated a).n ≡ true → ltb x (stated a).n ≡ true
-    → (get_or (stated a).seats x no_seat).fault ≡ t + 1 → (stated a).time ≡ t + k → has_seat (get_or (stated a).seats p no_seat).set x ≡ has
+    → (get_or (stated a).seats x no_seat).fault ≡ Some t → (stated a).time ≡ t + k → has_seat (get_or (stated a).seats p no_seat).set x ≡ has
     → After a p x t k has
 moment a p x t k has hp hx f e h = record { fault = is_fault a x t hx f; time = is_time a ∙ e; holds = is_in a p x hp ∙ h }
 

@@ -1,15 +1,13 @@
 -- Serves the proofs alone: nothing that a reader must believe rests on this file. The ring over functions of
 -- the seats, with the engine's own table: the model in which agreement is argued. View shows that its step is the
 -- engine's.
-use mathlib.Core.Bool.{Bool, true, false, not, ◌&&◌}
+use mathlib.Core.Bool.{Bool, true, false, cond, not, ◌&&◌}
 use mathlib.Core.Logic.{◌⊎◌}
 use mathlib.Core.Path.{◌≡◌}
 use Prim.Native.Nat.{ℕ, suc, ◌+◌, ◌%◌, ◌≤◌, ◌<◌}
 use lib.Dec.{eqb}
 use Rattle.limits.specs.Limits.{seats_least}
-use Rattle.turn.specs.Table.{table}
-use Rattle.turn.specs.Turn.{fault_after}
-use Rattle.turn.specs.declared.table.Row.{Row}
+use Rattle.turn.specs.Table.{Row, table}
 use Rattle.turn.proofs.GoneLaws.{takes_itself, takes_owner}
 
 -- `set p q`: q is in p's set. `fault p`: 0, or one more than the time of p's first fault
@@ -20,6 +18,10 @@ pub record State : Type 0 where
   pub ack : ℕ → Bool
   pub doubt : ℕ → Bool
   pub fault : ℕ → ℕ
+
+-- a first fault after a step, as that number
+abbrev pub first_after : Bool → ℕ → ℕ → ℕ
+first_after held since fault = cond (held && eqb fault 0) since fault
 
 -- every seat in every set, every acknowledgement true, every doubt false, no faults
 pub record Fresh (s : State) : Type 0 where
@@ -101,7 +103,7 @@ module _ (t : Marked) where
     set = λ p q. by_role (role p) (set p q) (left p q) (set p q);
     ack = λ p. by_role (role p) true (learns p) (ack p);
     doubt = λ p. by_role (role p) (not (ack p)) false (doubt p);
-    fault = λ p. fault_after (hold p) (suc time) (fault p);
+    fault = λ p. first_after (hold p) (suc time) (fault p);
   }
 
 -- ---- the fault terms, and what is to hold

@@ -7,6 +7,7 @@ use native.Mathlib.Omega.{arith}
 use lib.Dec.{ltb}
 use lib.ListN.{get_or}
 use borrow.Author.Tests.{ltb-true}
+use Rattle.std.specs.Prelude.{Some}
 use Rattle.limits.specs.Limits.{seats_least, seats_most}
 use Rattle.lists.proofs.Counted.{get_or-tab}
 use Rattle.seats.specs.Sets.{has_seat}
@@ -60,7 +61,7 @@ module _ (x : Run) where
   pub is_sound : (p : ℕ) → ltb p (stated x).n ≡ true → sound (get_or (stated x).seats p no_seat) ≡ true → SoundSeat (last_ring x) p
   is_sound p l e = record { seat = let h = ltb-true p (stated x).n l in omega (arith, is_n); never = ap sound (is_seat p l) ∙ e }
 
-  pub is_fault : (p t : ℕ) → ltb p (stated x).n ≡ true → (get_or (stated x).seats p no_seat).fault ≡ t + 1 → FirstFault (last_ring x) p t
+  pub is_fault : (p t : ℕ) → ltb p (stated x).n ≡ true → (get_or (stated x).seats p no_seat).fault ≡ Some t → FirstFault (last_ring x) p t
   is_fault p t l e = record { seat = let h = ltb-true p (stated x).n l in omega (arith, is_n); since = ap (λ (s : Seat). s.fault) (is_seat p l) ∙ e }
 
   pub is_in : (p q : ℕ) → ltb p (stated x).n ≡ true → has_seat (seat_of (last_ring x) p).set q ≡ has_seat (get_or (stated x).seats p no_seat).set q

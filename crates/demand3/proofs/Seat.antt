@@ -9,10 +9,9 @@ use borrow.Author.Tests.{eqb-true, eqb-false, eq-eqb, ne_eqb}
 use Rattle.lists.proofs.Tests.{both}
 use Rattle.lists.proofs.Found.{found}
 use Rattle.turn.specs.Table.{table}
-use Rattle.turn.specs.Turn.{fault_after}
 use Rattle.turn.specs.declared.Removal.TheVariants.{Nobody}
 use Rattle.turn.proofs.GoneLaws.{takes_itself}
-use Rattle.demand3.proofs.Model.{State, Marked, owns, acts, rests, owner, role, arrived, row, leaves, drops, learns, hold, step}
+use Rattle.demand3.proofs.Model.{State, first_after, Marked, owns, acts, rests, owner, role, arrived, row, leaves, drops, learns, hold, step}
 use Rattle.demand3.proofs.Model.{Sound, Faulty, Terms}
 
 -- a seat is sound or faulty
@@ -139,7 +138,7 @@ pub differ : {s : State} {x f p : ℕ} → Faulty s x f → Sound s p → x ≡ 
 differ {s} x p i = omega (arith, ap s.fault i, x.since, p.clean)
 
 -- one that is kept is never changed
-first_kept : (held : Bool) (since fault f : ℕ) → fault ≡ suc f → fault_after held since fault ≡ suc f
+first_kept : (held : Bool) (since fault f : ℕ) → fault ≡ suc f → first_after held since fault ≡ suc f
 first_kept true since fault f e = rw (ne_eqb fault 0 (omega arith)) e
 first_kept false since fault f e = e
 

@@ -6,11 +6,12 @@ use Prim.Native.Nat.{ℕ, ◌+◌, ◌-◌, ◌≤◌, ◌<◌}
 use native.Mathlib.Omega.{arith}
 use lib.Dec.{leb, ltb, eqb}
 use borrow.Author.Tests.{leb-true, leb-false, le-leb, lt-ltb, ltb-true, ltb-false, eqb-false, ne_eqb, not-true}
+use Rattle.lists.specs.Kept.{kept}
+use Rattle.lists.proofs.Kept.{some_kept}
 use Rattle.lists.specs.Counted.{count_below, all_below}
 use Rattle.lists.proofs.Tests.{both, and-true, and_of, all_at, all_from}
 use Rattle.lists.proofs.Found.{two_counted, counted_two}
-use Rattle.ring.specs.Ring.{seat_of}
-use Rattle.terms.specs.Terms.{faulty_by, distance, apart_by, sound_least, terms_hold}
+use Rattle.terms.specs.Terms.{first_of, faulty_by, distance, apart_by, sound_least, terms_hold}
 use Rattle.ring.specs.declared.Ring.{Ring}
 use Rattle.demand3.specs.Faults.{FirstFault, Apart, SoundAfter, TwoSound, TermsHold}
 
@@ -38,15 +39,16 @@ module _ (r : Ring) (t : ℕ) where
 
   fault_faulty : {x f : ℕ} → FirstFault r x f → f ≤ t → faulty x ≡ true
   fault_faulty {x} y l =
-      let e = y.since in
-      and_of (lt-ltb 0 (seat_of r x).fault (omega arith)) (le-leb (seat_of r x).fault (t + 1) (omega arith))
+      let e = ap kept y.since in
+      and_of (lt-ltb 0 (first_of r.faults x) (omega arith)) (le-leb (first_of r.faults x) (t + 1) (omega arith))
 
   faulty_fault : (x : ℕ) → x < r.n → faulty x ≡ true → (f : ℕ) × (FirstFault r x f) × (f ≤ t)
   faulty_fault x h e =
       let a = and-true _ _ e in
-      let low : 0 < (seat_of r x).fault = ltb-true _ _ a.0 in
-      let high : (seat_of r x).fault ≤ t + 1 = leb-true _ _ a.1 in
-      ((seat_of r x).fault - 1, record { seat = h; since = omega arith }, omega arith)
+      let low : 0 < first_of r.faults x = ltb-true _ _ a.0 in
+      let high : first_of r.faults x ≤ t + 1 = leb-true _ _ a.1 in
+      let f = first_of r.faults x - 1 in
+      (f, record { seat = h; since = some_kept _ f (omega arith) }, omega arith)
 
   sound_after_lem : (p : ℕ) → p < r.n → faulty p ≡ false → SoundAfter r t p
   sound_after_lem p h e = record {
@@ -71,17 +73,17 @@ module _ (r : Ring) (t : ℕ) where
     spaced : {x y f g : ℕ} → apart x y ≡ true → FirstFault r x f → FirstFault r y g → (x ≡ y → ⊥) → f ≤ g → g ≤ t → f + (d + 1) ≤ g
     spaced {x} {y} h fx fy ne l m =
         let e = apart_by_lem (ne_eqb x y ne) (fault_faulty fx (omega arith)) (fault_faulty fy m) h in
-        omega (arith, leb-true (d + 1) (distance (seat_of r x).fault (seat_of r y).fault) e, fx.since, fy.since)
+        omega (arith, leb-true (d + 1) (distance (first_of r.faults x) (first_of r.faults y)) e, ap kept fx.since, ap kept fy.since)
 
     far : {x y : ℕ} → x < r.n → y < r.n → Apart (d + 1) r t → apart x y ≡ true
     far {x} {y} hx hy w =
         apart_if (eqb x y) (faulty x) (faulty y) _ (λ e a b. le-leb (d + 1) _ (wide (eqb-false x y e) (faulty_fault x hx a) (faulty_fault y hy b)))
       where
         wide : (x ≡ y → ⊥) → (f : ℕ) × (FirstFault r x f) × (f ≤ t) → (g : ℕ) × (FirstFault r y g) × (g ≤ t)
-            → d + 1 ≤ distance (seat_of r x).fault (seat_of r y).fault
+            → d + 1 ≤ distance (first_of r.faults x) (first_of r.faults y)
         wide ne (f, fx, lf) (g, fy, lg) =
-            let i = fx.since in
-            let j = fy.since in
+            let i = ap kept fx.since in
+            let j = ap kept fy.since in
             ⊎_elim
             (λ l. omega (arith, w.spaced fx fy ne (leb-true f g l) lg))
             (λ l. let m : g ≤ f = omega (arith, leb-false f g l) in omega (arith, w.spaced fy fx (λ k. ne (sym k)) m lf))

@@ -4,9 +4,9 @@ use mathlib.Core.Bool.{not, false≢true}
 use mathlib.Core.Path.{◌≡◌, refl, sym, ap, ◌∙◌}
 use Prim.Native.Nat.{ℕ, zero, suc}
 use native.Mathlib.Omega.{arith}
-use borrow.Author.Tests.{eqb-true}
+use Rattle.lists.specs.Kept.{kept}
+use Rattle.lists.proofs.Kept.{kept_none}
 use Rattle.turn.specs.Turn.{sound}
-use Rattle.ring.specs.Ring.{seat_of}
 use Rattle.ring.specs.declared.Ring.{Ring}
 use Rattle.turn.specs.declared.Seat.{Seat}
 use Rattle.steps.specs.Run.{start}
@@ -21,7 +21,7 @@ use Rattle.demand3.proofs.Runs.{is_n, is_time, is_seat, is_sound, is_fault, is_i
 
 -- a sound seat has no first fault
 never_faulty : (r : Ring) (p t : ℕ) → SoundSeat r p → SoundAfter r t p
-never_faulty r p t s = record { seat = s.seat; later = λ {f} y. absurd (omega (arith, eqb-true (seat_of r p).fault 0 s.never, y.since)) }
+never_faulty r p t s = record { seat = s.seat; later = λ {f} y. absurd (omega (arith, kept_none _ s.never, ap kept y.since)) }
 
 module _ where
   abbrev r : Ring

@@ -1,5 +1,5 @@
 -- Who is sound, who had a first fault when, and the fault terms, in document 01's words.
-use Rattle.std.specs.Prelude.{true, ◌≡◌, ℕ, ◌+◌, ◌≤◌, ◌<◌}
+use Rattle.std.specs.Prelude.{Some, true, ◌≡◌, ℕ, ◌+◌, ◌≤◌, ◌<◌}
 use Rattle.turn.specs.Turn.{sound}
 use Rattle.ring.specs.Ring.{seat_of}
 use Rattle.ring.specs.declared.Ring.{Ring}
@@ -9,10 +9,10 @@ pub record SoundSeat (r : Ring) (p : ℕ) : Type 0 where
   pub seat : p < r.n
   pub never : sound (seat_of r p) ≡ true
 
--- seat x had its first fault in slot t (the ring keeps it as t + 1)
+-- seat x had its first fault in slot t
 pub record FirstFault (r : Ring) (x t : ℕ) : Type 0 where
   pub seat : x < r.n
-  pub since : (seat_of r x).fault ≡ t + 1
+  pub since : (seat_of r x).fault ≡ Some t
 
 -- ---- the fault terms up to a step
 

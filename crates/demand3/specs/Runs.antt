@@ -1,6 +1,6 @@
 -- Runs that show that no part of demand 3 is empty, that the fault terms are tight, and how late a removal
 -- can be; each with what comes of it.
-use Rattle.std.specs.Prelude.{Bool, true, false, List, [], ◌∷◌, ℕ, ◌-◌, ◌*◌, replicate}
+use Rattle.std.specs.Prelude.{Bool, true, false, Option, None, Some, List, [], ◌∷◌, ℕ, ◌-◌, ◌*◌, replicate}
 use Rattle.lists.specs.Counted.{tab, all_below}
 use Rattle.trail.specs.Trail.{width}
 use Rattle.ring.specs.Ring.{seat_of}
@@ -76,19 +76,19 @@ finish_on r = record {
 unfoldable pub finish_of : Run → Finish
 finish_of x = finish_on (last_ring x)
 
--- set, ack, doubt and first fault, as the ring keeps them
-abbrev seat : ℕ → Bool → Bool → ℕ → Seat
+-- set, ack, doubt and first fault
+abbrev seat : ℕ → Bool → Bool → Option ℕ → Seat
 seat set ack doubt fault = record { set = set; ack = ack; doubt = doubt; fault = fault }
 
 abbrev comes : Finding → ℕ → ℕ → List Seat → Finish
 comes verdict n time seats = record { verdict = verdict; n = n; time = time; n_apart = true; seats = seats }
 
 abbrev pub stated : Run → Finish
-stated five_apart = comes within 4 9 (seat 5 true false 0 ∷ seat 1 true false 6 ∷ seat 5 true false 0 ∷ seat 6 true false 1 ∷ [])
-stated four_apart = comes (outside 4) 4 5 (seat 7 true true 5 ∷ seat 4 false false 0 ∷ seat 2 false false 0 ∷ seat 6 true false 1 ∷ [])
-stated three_apart = comes (outside 3) 3 4 (seat 3 true true 4 ∷ seat 0 false false 0 ∷ seat 2 true false 1 ∷ [])
-stated alone = comes within 3 3 (seat 5 true false 0 ∷ seat 2 false false 1 ∷ seat 5 true true 0 ∷ [])
-stated before_own = comes within 4 3 (seat 15 true false 0 ∷ seat 15 true false 0 ∷ seat 15 true false 0 ∷ seat 6 true false 1 ∷ [])
-stated after_own = comes within 4 4 (seat 7 false false 0 ∷ seat 7 false false 0 ∷ seat 7 false false 0 ∷ seat 6 true false 1 ∷ [])
-stated before_out = comes within 3 2 (seat 5 false false 0 ∷ seat 6 true true 1 ∷ seat 5 false false 0 ∷ [])
-stated after_out = comes within 3 3 (seat 5 true false 0 ∷ seat 4 false false 1 ∷ seat 5 true true 0 ∷ [])
+stated five_apart = comes within 4 9 (seat 5 true false None ∷ seat 1 true false (Some 5) ∷ seat 5 true false None ∷ seat 6 true false (Some 0) ∷ [])
+stated four_apart = comes (outside 4) 4 5 (seat 7 true true (Some 4) ∷ seat 4 false false None ∷ seat 2 false false None ∷ seat 6 true false (Some 0) ∷ [])
+stated three_apart = comes (outside 3) 3 4 (seat 3 true true (Some 3) ∷ seat 0 false false None ∷ seat 2 true false (Some 0) ∷ [])
+stated alone = comes within 3 3 (seat 5 true false None ∷ seat 2 false false (Some 0) ∷ seat 5 true true None ∷ [])
+stated before_own = comes within 4 3 (seat 15 true false None ∷ seat 15 true false None ∷ seat 15 true false None ∷ seat 6 true false (Some 0) ∷ [])
+stated after_own = comes within 4 4 (seat 7 false false None ∷ seat 7 false false None ∷ seat 7 false false None ∷ seat 6 true false (Some 0) ∷ [])
+stated before_out = comes within 3 2 (seat 5 false false None ∷ seat 6 true true (Some 0) ∷ seat 5 false false None ∷ [])
+stated after_out = comes within 3 3 (seat 5 true false None ∷ seat 4 false false (Some 0) ∷ seat 5 true true None ∷ [])

@@ -1,6 +1,7 @@
 -- The refusal numbers of document 01, and what an answer says.
-use Rattle.std.specs.Prelude.{Bool, true, false, ℕ}
+use Rattle.std.specs.Prelude.{Bool, true, false, ℕ, ⊤, Result, Ok, Err}
 use Rattle.limits.specs.declared.Refusal.{Refusal}
+use Rattle.limits.specs.declared.Refused.{Refused}
 use Rattle.limits.specs.declared.Refusal.TheVariants.{EndsEarly, WrongByte, OutsideLimits, ModuleTwice, MarkNotAbove, WrongMark, BytesAfter, NoRoom, AtTheEnd, NotARing}
 
 -- the table's first column: 1 the sheet ends where a byte is needed, 2 a byte that cannot stand there, 3 a
@@ -71,3 +72,12 @@ pub data Told : Type 0 where
 abbrev pub on_done : {A : Type 0} → Told → A → A → A
 on_done done a b = a
 on_done (refused number place) a b = b
+
+-- a reason, given at a place
+abbrev pub refused_at : Refusal → ℕ → Refused
+refused_at why place = record { why = why; place = place }
+
+-- what comes of a call that hands on no more than whether it was refused
+abbrev pub tells : Result ⊤ Refused → Told
+tells (Ok nothing) = done
+tells (Err r) = refused (number_of r.why) r.place

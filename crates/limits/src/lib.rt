@@ -2,7 +2,7 @@
 #![tactic(auto)]
 
 ghost use Rattle.std.specs.Prelude.{◌≡◌};
-ghost use Rattle.limits.specs.Refusals.{number_of};
+ghost use Rattle.limits.specs.Refusals.{number_of, refused_at};
 
 // A ring has 2 to 32 seats.
 pub const SEATS_LEAST: usize = 2;
@@ -17,19 +17,26 @@ pub const MARKS_MOST: usize = 256;
 
 pub const MODULE_MOST: usize = 65535;
 
-// Why something is refused.
+// Why something is refused. The numbers are document 01's.
 #[derive(Clone, Copy)]
 pub enum Refusal {
-    EndsEarly,
-    WrongByte,
-    OutsideLimits,
-    ModuleTwice,
-    MarkNotAbove,
-    WrongMark,
-    BytesAfter,
-    NoRoom,
-    AtTheEnd,
-    NotARing,
+    EndsEarly = 1,
+    WrongByte = 2,
+    OutsideLimits = 3,
+    ModuleTwice = 4,
+    MarkNotAbove = 5,
+    WrongMark = 6,
+    BytesAfter = 7,
+    NoRoom = 8,
+    AtTheEnd = 9,
+    NotARing = 10,
+}
+
+// What is refused: why, and at which place.
+#[derive(Clone, Copy)]
+pub struct Refused {
+    pub why: Refusal,
+    pub place: usize,
 }
 
 impl Refusal {
@@ -37,17 +44,13 @@ impl Refusal {
     pub fn number(self) -> u8
         ensures { result ≡ number_of self }
     {
-        match self {
-            Refusal::EndsEarly => 1,
-            Refusal::WrongByte => 2,
-            Refusal::OutsideLimits => 3,
-            Refusal::ModuleTwice => 4,
-            Refusal::MarkNotAbove => 5,
-            Refusal::WrongMark => 6,
-            Refusal::BytesAfter => 7,
-            Refusal::NoRoom => 8,
-            Refusal::AtTheEnd => 9,
-            Refusal::NotARing => 10,
-        }
+        self as u8
+    }
+
+    // It, given at this place.
+    pub fn at(self, place: usize) -> Refused
+        ensures { result ≡ refused_at self place }
+    {
+        Refused { why: self, place }
     }
 }

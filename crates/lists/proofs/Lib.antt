@@ -5,3 +5,5 @@ pub mod Any
 pub mod Found
 pub mod Each
 pub mod Put
+pub mod Chains
+pub mod Kept

@@ -1,35 +1,35 @@
--- What can be printed, the page by the answer of a run, what `print` promises from what is written, and what
--- callers need of it. Assumes nothing.
+-- What can be printed, the page by the answer of a run, and what `print` promises from what is written. Assumes
+-- nothing.
 use mathlib.Core.Path.{◌≡◌, refl, sym, ap, ◌∙◌}
-use mathlib.Core.Bool.{true, false}
+use mathlib.Core.Bool.{true, false, cond}
 use mathlib.Core.List.{List, ◌++◌, append_assoc}
-use mathlib.Core.Logic.{◌⊎◌, ⊎_elim}
+use mathlib.Core.Logic.{◌⊎◌, inl, inr}
 use Prim.Native.Nat.{ℕ, ◌≤◌}
-use native.Mathlib.Omega.{arith}
 use lib.Dec.{leb}
 use lib.ListN.{length}
 use lib.Seq.{take_all}
 use borrow.Author.Tests.{leb-true}
-use denote.Enum.Declared.{tag_of}
+use denote.Ref.{MutBor}
+use Rattle.std.specs.Prelude as std
+use Rattle.std.specs.Prelude.{Option, Some, None, Ok, Err}
 use Rattle.lists.proofs.Tests.{both, and-true}
 use Rattle.limits.specs.Limits.{seats_most}
 use Rattle.limits.specs.Refusals.{number_of}
-use Rattle.limits.specs.declared.Refusal.{Refusal}
 use Rattle.limits.specs.declared.Refusal.TheVariants.{NotARing}
+use Rattle.limits.specs.declared.Refused.{Refused}
 use Rattle.trail.specs.Trail.{room_for}
 use Rattle.ring.specs.Refusals.{found}
 use Rattle.ring.specs.declared.Verdict.{Verdict}
-use Rattle.ring.specs.declared.Verdict.TheVariants as verdicts
-use Rattle.ring.specs.contracts.Verdict.{the_type}
+use Rattle.ring.specs.declared.Verdict.TheVariants.{Within, Outside}
 use Rattle.run.specs.Outcome.{Heard, Result, heard}
-use Rattle.run.specs.declared.Bus.{Bus}
+use Rattle.run.specs.declared.Shown.{Shown}
 use Rattle.run.specs.declared.Ran.{Ran}
-use Rattle.run.specs.declared.RunAnswer.TheVariants as answers
 use Rattle.report.specs.Page.{bus_line, faults_line, refused_line, printable, sections, ran_page, page_of, result_of}
 use Rattle.report.specs.Promise.{page_most, Prints}
 use Rattle.report.specs.Inside.{Writes, up_to_faults}
-use Rattle.text.specs.declared.Place.{Place}
-use Rattle.text.proofs.Written.{Written, from_start}
+use Rattle.text.specs.Lent.{lent}
+use Rattle.text.specs.declared.Lent.{Lent}
+use Rattle.text.proofs.Written.{Written, from_start, same_reference}
 
 -- ---- what can be printed
 
@@ -41,61 +41,49 @@ holds x e =
 
 -- ---- the page by the answer
 
-module _ (x : Result) (bus : Heard) (v : Verdict) where
-  pub page_unfit : {why : Refusal} {place : ℕ} → v ≡ verdicts.Refused why place → refused_line (number_of why) place ≡ ran_page x bus (found v)
-  page_unfit e = rw e
+-- with a verdict that is not refused
+page_fit : (x : Result) (bus : Heard) (v : Verdict) → sections x bus (found (Ok v)) ≡ ran_page x bus (found (Ok v))
+page_fit x bus Within = refl
+page_fit x bus (Outside t) = refl
 
-  -- by the position of the verdict's variant: within is 0, outside is 1
-  module _ (fit : (tag_of the_type v ≡ 0) ⊎ (tag_of the_type v ≡ 1)) where
-    fit_page : sections x bus (found v) ≡ ran_page x bus (found v)
-    fit_page = go v fit
-      where
-        go : (w : Verdict) → (tag_of the_type w ≡ 0) ⊎ (tag_of the_type w ≡ 1) → sections x bus (found w) ≡ ran_page x bus (found w)
-        go verdicts.Within m = refl
-        go (verdicts.Outside t) m = refl
-        go (verdicts.Refused why place) m = absurd (⊎_elim (λ e. omega arith) (λ e. omega arith) m)
+module _ (x : Result) (bus : Heard) (v : Verdict) {told : std.Result Verdict Refused} (is : told ≡ Ok v) where
+  pub page_printed : printable x ≡ true → up_to_faults x (bus_line bus) ++ faults_line (found (Ok v)) ≡ ran_page x bus (found told)
+  page_printed e = rw (is, ← page_fit x bus v, e) (simp append_assoc)
 
-    pub page_printed : printable x ≡ true → up_to_faults x (bus_line bus) ++ faults_line (found v) ≡ ran_page x bus (found v)
-    page_printed e = rw (← fit_page, e) (simp append_assoc)
-
-    pub page_no_ring : printable x ≡ false → refused_line (number_of NotARing) 0 ≡ ran_page x bus (found v)
-    page_no_ring e = rw (← fit_page, e)
+  pub page_no_ring : printable x ≡ false → refused_line (number_of NotARing) 0 ≡ ran_page x bus (found told)
+  page_no_ring e = rw (is, ← page_fit x bus v, e)
 
 module _ (r : Ran) (t : List ℕ) where
-  pub page_refused : {why : Refusal} {place : ℕ} → r.answer ≡ answers.Refused why place → refused_line (number_of why) place ≡ page_of (result_of r t)
+  pub page_refused : {refusal : Refused} → r.answer ≡ Err refusal → refused_line (number_of refusal.why) refusal.place ≡ page_of (result_of r t)
   unfolding page_of
   page_refused e = rw e
 
-  pub page_ran : {bus : Bus} {v : Verdict} → r.answer ≡ answers.Ran bus v → ran_page (result_of r t) (heard bus) (found v) ≡ page_of (result_of r t)
+  pub page_ran : {shown : Shown} → r.answer ≡ Ok shown → ran_page (result_of r t) (heard shown.bus) (found shown.verdict) ≡ page_of (result_of r t)
   unfolding page_of
   page_ran e = rw e
 
 -- ---- the promise
 
-module _ (text : List ℕ) {page page' : List ℕ} {end : Place} (w : Writes text page_most (record { at = 0; whole = true }) page end page') where
-  all : Written page text end page'
+-- where a page is written from the start of a buffer, how much is written says whether all of it found room;
+-- and the buffer is the one that was lent
+module _ (text : List ℕ) {page : MutBor (List ℕ)} {end : Lent} (w : Writes text page_most (lent page 0 true) end) where
+  all : Written page.now text end
   all = rw (← w.done) at (from_start page text)
 
-  pub prints_whole : end.whole ≡ true → Prints text page end.at page'
-  prints_whole h =
-      let l : leb (length text) (length page) ≡ true = sym all.whole ∙ h in
-      record {
-        bytes = all.bytes;
-        result = all.at ∙ ap length (take_all (length page) text (leb-true (length text) (length page) l)) ∙ sym (rw l);
-        short = w.short;
-      }
+  same_page : page.ghost_name ≡ end.page.ghost_name
+  same_page = sym (rw w.done (same_reference (lent page 0 true) text))
 
-  pub prints_cut : end.whole ≡ false → Prints text page 0 page'
-  prints_cut h =
-      let l : leb (length text) (length page) ≡ false = sym all.whole ∙ h in
-      record { bytes = all.bytes; result = sym (rw l); short = w.short }
+  length_of : (leb (length text) (length page.now) ≡ true) ⊎ (leb (length text) (length page.now) ≡ false)
+      → cond end.whole (Some end.at) None ≡ cond (leb (length text) (length page.now)) (Some (length text)) None
+  length_of (inl h) =
+      let at : end.at ≡ length text = all.at ∙ ap length (take_all (length page.now) text (leb-true (length text) (length page.now) h)) in
+      rw (all.whole, h, at)
+  length_of (inr h) = rw (all.whole, h)
 
--- ---- for callers
-
--- what is given back never reaches past the buffer
-pub within_buffer : (text page : List ℕ) (r : ℕ) (page' : List ℕ) → Prints text page r page' → r ≤ length page
-within_buffer text page r page' a =
-    ⊎_elim
-    (λ e. let z : r ≡ length text = a.result ∙ rw e in omega (arith, leb-true (length text) (length page) e))
-    (λ e. let z : r ≡ 0 = a.result ∙ rw e in omega arith)
-    (both (leb (length text) (length page)))
+  pub prints : {r : Option ℕ} {page' : List ℕ} → r ≡ cond end.whole (Some end.at) None
+      → (page.ghost_name ≡ end.page.ghost_name → page' ≡ end.page.now) → Prints text page.now r page'
+  prints {r} e behind = record {
+    bytes = behind same_page ∙ all.bytes;
+    result = e ∙ length_of (both (leb (length text) (length page.now)));
+    short = w.short;
+  }

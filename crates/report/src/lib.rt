@@ -5,7 +5,7 @@ ghost use Rattle.std.specs.Prelude.{◌≡◌};
 ghost use Rattle.report.specs.Promise.{no_page, PrintPromise};
 
 use run::Ran;
-use text::Place;
+use text::Lent;
 
 mod lines; // lines.rt: the lines of the page
 mod sections; // sections.rt: its sections
@@ -18,20 +18,18 @@ const REST_MOST: usize = 1024;
 pub const PAGE_MOST: usize = RECORD_MOST * limits::ROOM_MOST + REST_MOST;
 
 // An empty buffer that has room for any page.
+#[tactic(auto, unfolding(crate::specs::Promise::no_page))]
 pub fn no_page() -> [u8; PAGE_MOST]
     ensures { result ≡ no_page }
 {
     [0u8; PAGE_MOST]
 }
 
-// Print what a run leaves into the buffer: the page's length, or 0 where the buffer is too short for it.
-pub fn print(ran: Ran, trail: &[u8], page: &mut [u8]) -> usize
+// Print what a run leaves into the buffer: the page's length, or nothing where the buffer is too short for it.
+pub fn print(ran: Ran, trail: &[u8], page: &mut [u8]) -> Option<usize>
     ensures { PrintPromise ran trail.now page.old result page.new }
 {
-    let begin = Place { at: 0, whole: true };
-    let end = sections::whole_page(page, begin, ran, trail);
-    if end.whole {
-        return end.at;
-    }
-    0
+    let mut lent = Lent::new(page);
+    sections::whole_page(&mut lent, &ran, trail);
+    lent.written()
 }

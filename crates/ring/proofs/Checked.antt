@@ -1,33 +1,43 @@
 -- What the engine's test `is_ring` comes to: a record of facts, and back. Assumes nothing.
-use mathlib.Core.Path.{◌≡◌, ap}
+use mathlib.Core.Path.{◌≡◌, sym, ap, ◌∙◌}
 use mathlib.Core.Bool.{true, ◌&&◌}
 use mathlib.Core.Logic.{⊎_elim}
-use Prim.Native.Nat.{ℕ, ◌≤◌, ◌<◌}
+use Prim.Native.Nat.{ℕ, ◌+◌, ◌≤◌, ◌<◌}
 use native.Mathlib.Nat.{mod-lt}
 use native.Mathlib.Omega.{arith}
 use lib.Dec.{leb, ltb}
-use borrow.Author.Tests.{leb-true, le-leb, lt-ltb, le-ltb, ltb-true, ltb-false, eqb-true, not-true}
+use borrow.Author.Tests.{leb-true, le-leb, lt-leb, lt-ltb, le-ltb, ltb-true, ltb-false, eqb-true, not-true}
+use Rattle.std.specs.Prelude.{Option, None, Some}
+use Rattle.lists.specs.Kept.{kept}
+use Rattle.lists.proofs.Kept.{none_is}
 use Rattle.limits.specs.Limits.{seats_stand, seats_least, seats_most, slots_most}
 use Rattle.lists.proofs.Tests.{both, and-true, and_of, all_at, all_from}
 use Rattle.seats.proofs.Sets.{below_full, full_is}
 use Rattle.seats.specs.Sets.{full_set}
-use Rattle.ring.specs.Ring.{seat_of, owner_of, no_seat, member_stands, absent_stands, seat_stands, every_seat_stands, is_ring}
+use Rattle.ring.specs.Ring.{seat_of, owner_of, no_seat, is_past, member_stands, absent_stands, seat_stands, every_seat_stands, is_ring}
 use Rattle.ring.specs.declared.Ring.{Ring}
 use Rattle.turn.specs.declared.Seat.{Seat}
 pub use Rattle.ring.specs.Valid.{Member, Valid}
+
+-- ---- a first fault
+
+past_is : (time : ℕ) (fault : Option ℕ) → is_past time fault ≡ leb (kept fault) time
+past_is time None = sym (le-leb 0 time (omega arith))
+past_is time (Some t) =
+    ⊎_elim (λ e. e ∙ sym (le-leb (t + 1) time (omega (arith, ltb-true t time e)))) (λ e. e ∙ sym (lt-leb (t + 1) time (omega (arith, ltb-false t time e)))) (both (ltb t time))
 
 -- ---- one seat
 
 pub member_of : (n time : ℕ) (s : Seat) → n ≤ seats_most → member_stands n time s ≡ true → Member n time s
 member_of n time s h e =
     let a = and-true _ _ e in
-    record { inside = below_full s.set n h (leb-true _ _ a.0); past = leb-true _ _ a.1 }
+    record { inside = below_full s.set n h (leb-true _ _ a.0); past = leb-true _ _ (sym (past_is time s.fault) ∙ a.1) }
 
 pub member_stands_lem : (n time : ℕ) (s : Seat) → n ≤ seats_most → Member n time s → member_stands n time s ≡ true
 member_stands_lem n time s h m =
     let f = full_is n h in
     let l = m.inside in
-    and_of (le-leb s.set (full_set n) (omega arith)) (le-leb _ _ m.past)
+    and_of (le-leb s.set (full_set n) (omega arith)) (past_is time s.fault ∙ le-leb _ _ m.past)
 
 pub absent_of : (s : Seat) → absent_stands s ≡ true → s ≡ no_seat
 absent_of s e =
@@ -37,7 +47,7 @@ absent_of s e =
     let i = eqb-true _ _ c.0 in
     let j = not-true _ c.1 in
     let k = not-true _ b.1 in
-    let l = eqb-true _ _ a.1 in
+    let l = none_is s.fault a.1 in
     λ x. record { set = i x; ack = j x; doubt = k x; fault = l x }
 
 pub absent_stands_lem : (s : Seat) → s ≡ no_seat → absent_stands s ≡ true

@@ -4,6 +4,7 @@ use mathlib.Core.Bool.{false}
 use Prim.Native.Nat.{ℕ, ◌+◌, ◌*◌, ◌≤◌, ◌<◌}
 use native.Mathlib.Omega.{arith}
 use lib.ListN.{length, set}
+use Rattle.std.specs.Prelude.{None}
 use Rattle.lists.proofs.Counted.{draw_next, draw_same, sum_at_most}
 use Rattle.turn.specs.declared.Seat.{Seat}
 use Rattle.turn.specs.declared.Slot.{Slot}
@@ -43,7 +44,7 @@ drawn_still r seat p w e = λ i. record {
   sets = draw_same p (λ q. (seat q).set) r.sets 0 w.sets (λ j. (e j).set) i;
   acks = draw_same p (λ q. (seat q).ack) r.acks false w.acks (λ j. (e j).ack) i;
   doubts = draw_same p (λ q. (seat q).doubt) r.doubts false w.doubts (λ j. (e j).doubt) i;
-  faults = draw_same p (λ q. (seat q).fault) r.faults 0 w.faults (λ j. (e j).fault) i;
+  faults = draw_same p (λ q. (seat q).fault) r.faults None w.faults (λ j. (e j).fault) i;
   n = r.n;
   time = r.time;
   records = r.records;

@@ -4,6 +4,7 @@ use mathlib.Core.Bool.{true, false}
 use Prim.Native.Nat.{ℕ, ◌+◌, ◌<◌}
 use native.Mathlib.Omega.{arith}
 use lib.ListN.{set}
+use Rattle.std.specs.Prelude.{Option, None}
 use Rattle.ring.specs.Ring.{zero_ring, drawn_to, with_counts, fresh_seat}
 use Rattle.ring.specs.declared.Ring.{Ring}
 use Rattle.lists.proofs.Counted.{draw_next, drawn_alike}
@@ -33,4 +34,4 @@ begun_none n = refl
 pub begun_next : (n p : ℕ) → p < 32 → filled (begun n p) p (fresh_seat n).set ≡ begun n (p + 1)
 unfolding zero_ring
 begun_next n p h =
-    rw (draw_next p (λ q. (fresh_seat n).set) zero_ring.sets h, draw_next p (λ q. true) zero_ring.acks h, drawn_alike false 32 p (omega arith), drawn_alike false 32 (p + 1) (omega arith), drawn_alike {A = ℕ} 0 32 p (omega arith), drawn_alike {A = ℕ} 0 32 (p + 1) (omega arith))
+    rw (draw_next p (λ q. (fresh_seat n).set) zero_ring.sets h, draw_next p (λ q. true) zero_ring.acks h, drawn_alike false 32 p (omega arith), drawn_alike false 32 (p + 1) (omega arith), drawn_alike {A = Option ℕ} None 32 p (omega arith), drawn_alike {A = Option ℕ} None 32 (p + 1) (omega arith))

@@ -1,7 +1,8 @@
--- What is refused, in the order of the checks, and what each answer says in document 01's numbers.
-use Rattle.std.specs.Prelude.{Bool, cond, not, ◌&&◌, ℕ, ◌+◌, leb, ltb, eqb}
+-- What is refused, in the order of the checks, and what a verdict says in document 01's numbers.
+use Rattle.std.specs.Prelude.{Bool, Result, Ok, Err, cond, not, ◌&&◌, ℕ, ◌+◌, leb, ltb, eqb}
 use Rattle.limits.specs.Limits.{slots_most, room_most, seats_stand}
 use Rattle.limits.specs.Refusals.{number_of, Told, done, refused}
+use Rattle.limits.specs.declared.Refused.{Refused}
 use Rattle.limits.specs.declared.Refusal.TheVariants.{WrongMark, NoRoom, AtTheEnd, NotARing}
 use Rattle.seats.specs.Sets.{has_seat, full_set}
 use Rattle.terms.specs.Terms.{first_failing}
@@ -10,28 +11,21 @@ use Rattle.turn.specs.declared.Slot.{Slot}
 use Rattle.ring.specs.Ring.{is_ring}
 use Rattle.ring.specs.Step.{slot_of, count_in}
 use Rattle.ring.specs.declared.Ring.{Ring}
-use Rattle.ring.specs.declared.StepAnswer.{StepAnswer}
-use Rattle.ring.specs.declared.StepAnswer.TheVariants as answers
 use Rattle.ring.specs.declared.Verdict.{Verdict}
-use Rattle.ring.specs.declared.Verdict.TheVariants as verdicts
+use Rattle.ring.specs.declared.Verdict.TheVariants.{Within, Outside}
 
--- ---- what each answer says
+-- ---- what a verdict says
 
--- a step's, or a fresh ring's
-abbrev pub step_tells : StepAnswer → Told
-step_tells answers.Taken = done
-step_tells (answers.Refused why place) = refused (number_of why) place
-
--- a verdict: within, outside T, or refused
+-- within, outside T, or refused
 pub data Finding : Type 0 where
   within : Finding
   outside : ℕ → Finding
   unfit : (number place : ℕ) → Finding
 
-abbrev pub found : Verdict → Finding
-found verdicts.Within = within
-found (verdicts.Outside t) = outside t
-found (verdicts.Refused why place) = unfit (number_of why) place
+abbrev pub found : Result Verdict Refused → Finding
+found (Ok Within) = within
+found (Ok (Outside t)) = outside t
+found (Err r) = unfit (number_of r.why) r.place
 
 -- ---- what is asked is answered so
 

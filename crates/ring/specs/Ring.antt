@@ -1,5 +1,5 @@
 -- The ring as one value: its seats, the owner of a slot, the fresh and the zero ring, and what is not a ring.
-use Rattle.std.specs.Prelude.{Bool, true, false, cond, not, ◌&&◌, ◌++◌, ℕ, ◌%◌, leb, ltb, eqb, get_or, drop, replicate}
+use Rattle.std.specs.Prelude.{Bool, true, false, cond, not, ◌&&◌, ◌++◌, ℕ, ◌%◌, leb, ltb, eqb, get_or, drop, replicate, Option, None, Some, is_none}
 use Rattle.limits.specs.Limits.{seats_most, slots_most, seats_stand}
 use Rattle.lists.specs.Counted.{tab, all_below}
 use Rattle.seats.specs.Sets.{full_set}
@@ -12,7 +12,7 @@ seat_of r p = record {
   set = get_or r.sets p 0;
   ack = get_or r.acks p false;
   doubt = get_or r.doubts p false;
-  fault = get_or r.faults p 0;
+  fault = get_or r.faults p None;
 }
 
 -- the owner of the slot
@@ -22,11 +22,11 @@ owner_of r = r.time % r.n
 -- ---- the zero ring and a fresh ring
 
 abbrev pub no_seat : Seat
-no_seat = record { set = 0; ack = false; doubt = false; fault = 0 }
+no_seat = record { set = 0; ack = false; doubt = false; fault = None }
 
 -- every seat in its set, its acknowledgement true, its doubt false, no fault
 abbrev pub fresh_seat : ℕ → Seat
-fresh_seat n = record { set = full_set n; ack = true; doubt = false; fault = 0 }
+fresh_seat n = record { set = full_set n; ack = true; doubt = false; fault = None }
 
 unfoldable pub zero_ring : Ring
 zero_ring = record {
@@ -60,13 +60,18 @@ fresh_ring n = with_counts (drawn_to n zero_ring (λ p. fresh_seat n)) n 0 0
 
 -- ---- what is a ring
 
+-- a first fault, if there has been one, is before the time
+abbrev pub is_past : ℕ → Option ℕ → Bool
+is_past time None = true
+is_past time (Some t) = ltb t time
+
 -- a seat below n: no seat n or above in its set, and a first fault only before the time
 abbrev pub member_stands : ℕ → ℕ → Seat → Bool
-member_stands n time s = leb s.set (full_set n) && leb s.fault time
+member_stands n time s = leb s.set (full_set n) && is_past time s.fault
 
 -- a seat n or above: no member, bit or first fault
 abbrev pub absent_stands : Seat → Bool
-absent_stands s = eqb s.set 0 && not s.ack && not s.doubt && eqb s.fault 0
+absent_stands s = eqb s.set 0 && not s.ack && not s.doubt && is_none s.fault
 
 abbrev pub seat_stands : ℕ → ℕ → ℕ → Seat → Bool
 seat_stands n time p s = cond (ltb p n) (member_stands n time s) (absent_stands s)

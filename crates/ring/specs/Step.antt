@@ -12,15 +12,14 @@ use Rattle.ring.specs.declared.Ring.{Ring}
 
 -- ---- the slot
 
--- the owner speaks as its own set, its acknowledgement before the step and its send mark have it; a first
--- fault is kept as the time plus one
+-- the owner speaks as its own set, its acknowledgement before the step and its send mark have it
 abbrev pub slot_for : Ring → Bool → ℕ → ℕ → Slot
 slot_for r send receive b = record {
+  time = r.time;
   owner = b;
   spoken = spoken_by b (seat_of r b).set (seat_of r b).ack send;
   send = send;
   receive = receive;
-  since = r.time + 1;
 }
 
 abbrev pub slot_of : Ring → Bool → ℕ → Slot

@@ -1,5 +1,6 @@
 -- What a ring is, in document 01's words: the facts that the engine's test `is_ring` tests.
 use Rattle.std.specs.Prelude.{◌≡◌, ℕ, ◌^◌, ◌≤◌, ◌<◌}
+use Rattle.lists.specs.Kept.{kept}
 use Rattle.ring.specs.Ring.{seat_of, no_seat}
 use Rattle.ring.specs.declared.Ring.{Ring}
 use Rattle.turn.specs.declared.Seat.{Seat}
@@ -8,7 +9,7 @@ use Rattle.limits.specs.Limits.{seats_least, seats_most, slots_most}
 -- a seat below n: no seat n or above in its set, and a first fault only before the time
 pub record Member (n time : ℕ) (s : Seat) : Type 0 where
   pub inside : s.set < 2 ^ n
-  pub past : s.fault ≤ time
+  pub past : kept s.fault ≤ time
 
 -- a ring with no more records than the room
 pub record Valid (r : Ring) (room : ℕ) : Type 0 where

@@ -10,92 +10,47 @@ use turn::{Seat, Slot};
 fn member_stands(s: Seat, n: usize, time: u16) -> bool
     ensures { result ≡ member_stands n time s }
 {
-    if seats::within(s.set, n) {
-        return s.fault <= time;
-    }
-    false
+    seats::within(s.set, n) && s.fault.is_none_or(|t| t < time)
 }
 
 // A seat that the ring does not have.
 fn absent_stands(s: Seat) -> bool
     ensures { result ≡ absent_stands s }
 {
-    if s.set != 0 {
-        return false;
-    }
-    if s.ack {
-        return false;
-    }
-    if s.doubt {
-        return false;
-    }
-    s.fault == 0
+    s.set == 0 && !s.ack && !s.doubt && s.fault.is_none()
 }
 
 fn seat_stands(s: Seat, p: usize, n: usize, time: u16) -> bool
     ensures { result ≡ seat_stands n time p s }
 {
     if p < n {
-        return member_stands(s, n, time);
+        member_stands(s, n, time)
+    } else {
+        absent_stands(s)
     }
-    absent_stands(s)
 }
 
 // All 32 are looked at, since a seat that the ring does not have must be empty.
-fn every_seat_stands(ring: Ring) -> bool
-    ensures { result ≡ every_seat_stands ring }
+fn every_seat_stands(ring: &Ring) -> bool
+    ensures { result ≡ every_seat_stands ring.now }
 {
-    let n = ring.n;
-    let time = ring.time;
-    let mut p: usize = 0;
-    while p < limits::SEATS_MOST {
-        let set = ring.sets[p];
-        let ack = ring.acks[p];
-        let doubt = ring.doubts[p];
-        let fault = ring.faults[p];
-        if !seat_stands(
-            Seat {
-                set,
-                ack,
-                doubt,
-                fault,
-            },
-            p,
-            n,
-            time,
-        ) {
-            return false;
-        }
-        p += 1;
-    }
-    true
+    (0..limits::SEATS_MOST).all(|p| seat_stands(ring.seat(p), p, ring.n, ring.time))
 }
 
 // A ring, with room for the records that it has.
-pub fn is_ring(ring: Ring, room: usize) -> bool
-    ensures { result ≡ is_ring ring room }
+#[tactic(auto, unfolding(crate::specs::Ring::is_ring))]
+pub fn is_ring(ring: &Ring, room: usize) -> bool
+    ensures { result ≡ is_ring ring.now room }
 {
-    if ring.n < limits::SEATS_LEAST {
-        return false;
-    }
-    if limits::SEATS_MOST < ring.n {
-        return false;
-    }
-    if limits::SLOTS_MOST < (ring.time as usize) {
-        return false;
-    }
-    if room < (ring.records as usize) {
-        return false;
-    }
-    every_seat_stands(ring)
+    (limits::SEATS_LEAST..=limits::SEATS_MOST).contains(&ring.n)
+        && ring.time as usize <= limits::SLOTS_MOST
+        && ring.records as usize <= room
+        && every_seat_stands(ring)
 }
 
 // No receive mark for the owner or for no seat.
 pub fn marks_stand(slot: Slot, n: usize) -> bool
     ensures { result ≡ marks_stand n slot }
 {
-    if seats::within(slot.receive, n) {
-        return !seats::has(slot.receive, slot.owner);
-    }
-    false
+    seats::within(slot.receive, n) && !seats::has(slot.receive, slot.owner)
 }

@@ -1,72 +1,51 @@
 // The membership engine: a ring of modules, stepped slot by slot, with its trail and its verdict.
 #![tactic(auto)]
 
-ghost use Rattle.std.specs.Prelude.{◌≡◌};
-ghost use Rattle.ring.specs.declared.StepAnswer.TheVariants.{Taken, Refused};
+ghost use Rattle.std.specs.Prelude.{◌≡◌, ◌<◌};
+ghost use Rattle.limits.specs.Limits.{seats_most};
+ghost use Rattle.ring.specs.Ring.{seat_of};
+ghost use Rattle.ring.specs.Refusals.{found, verdict_found};
+ghost use Rattle.ring.specs.Inside.{slot_told};
 ghost use Rattle.ring.specs.Promise.{ZeroPromise, FreshPromise, StepPromise, VerdictPromise};
 
-use limits::Refusal;
-use turn::Slot;
+use limits::{Refusal, Refused};
+use turn::{Seat, Slot};
 
 mod check; // check.rt: what is a ring, and which receive marks stand
 mod draw; // draw.rt: the step's two passes over the seats
 mod start; // start.rt: the zero ring and a fresh one
 
-// The whole ring is one value. A first fault is kept as its time plus one, and 0 is none.
+// The whole ring is one value, as document 01 wants it: fixed arrays, passed and given back. Each seat has the time of its first fault, if it has had one.
 #[derive(Clone, Copy)]
 pub struct Ring {
     pub sets: [u32; limits::SEATS_MOST],
     pub acks: [bool; limits::SEATS_MOST],
     pub doubts: [bool; limits::SEATS_MOST],
-    pub faults: [u16; limits::SEATS_MOST],
+    pub faults: [Option<u16>; limits::SEATS_MOST],
     pub n: usize,
     pub time: u16,
     pub records: u16,
 }
 
-// How a fresh ring or a step was answered; a refusal has its place.
-#[derive(Clone, Copy)]
-pub enum StepAnswer {
-    Taken,
-    Refused(Refusal, usize),
-}
-
+// How a fresh ring or a step was answered, and the ring after it.
 #[derive(Clone, Copy)]
 pub struct Stepped {
-    pub answer: StepAnswer,
+    pub answer: Result<(), Refused>,
     pub ring: Ring,
 }
 
-// The fault terms hold up to the last step taken, or fail first up to the step named.
+// The fault terms hold up to the last step taken, or fail first up to the step named. No Option: beside that of
+// the bus it would be one of two alike, and its nothing would have to be read as the page's word.
 #[derive(Clone, Copy)]
 pub enum Verdict {
     Within,
     Outside(u16),
-    Refused(Refusal, usize),
 }
 
 #[derive(Clone, Copy)]
 pub struct Judged {
-    pub verdict: Verdict,
+    pub verdict: Result<Verdict, Refused>,
     pub ring: Ring,
-}
-
-fn refused(why: Refusal, place: usize, ring: Ring) -> Stepped
-    ensures { result ≡ record { answer = Refused why place; ring = ring } }
-{
-    Stepped {
-        answer: StepAnswer::Refused(why, place),
-        ring,
-    }
-}
-
-fn taken(ring: Ring) -> Stepped
-    ensures { result ≡ record { answer = Taken; ring = ring } }
-{
-    Stepped {
-        answer: StepAnswer::Taken,
-        ring,
-    }
 }
 
 impl Ring {
@@ -81,83 +60,113 @@ impl Ring {
     pub fn fresh(self, n: usize) -> Stepped
         ensures { FreshPromise n result }
     {
-        if n < limits::SEATS_LEAST {
-            return refused(Refusal::NotARing, 0, start::zero_ring());
+        if (limits::SEATS_LEAST..=limits::SEATS_MOST).contains(&n) {
+            return Stepped {
+                answer: Ok(()),
+                ring: start::fresh_ring(n),
+            };
         }
-        if limits::SEATS_MOST < n {
-            return refused(Refusal::NotARing, 0, start::zero_ring());
+        Stepped {
+            answer: Err(Refusal::NotARing.at(0)),
+            ring: start::zero_ring(),
         }
-        taken(start::fresh_ring(n))
     }
 
     // One slot: the owner's send mark, the seats with a receive mark, and the trail that takes the records.
-    // The records are counted before any is written, so that a step without room leaves no trace. Most steps
-    // remove nobody, and then no seat is looked at again.
     pub fn step(self, send: bool, receive: u32, trail: &mut [u8]) -> Stepped
         ensures { StepPromise self send receive trail.old result trail.new }
     {
-        let room = trail::room_for(trail.len());
-        if !check::is_ring(self, room) {
-            return refused(Refusal::NotARing, 0, self);
-        }
-        let n = self.n;
-        let time = self.time as usize;
-        let owner = time % n;
-        let sets = self.sets;
-        let set = sets[owner];
-        let acks = self.acks;
-        let ack = acks[owner];
-        let slot = Slot {
-            owner,
-            spoken: turn::speak(owner, set, ack, send),
-            send,
-            receive,
-            since: self.time + 1,
-        };
-        if !check::marks_stand(slot, n) {
-            return refused(Refusal::WrongMark, time, self);
-        }
-        if time == limits::SLOTS_MOST {
-            return refused(Refusal::AtTheEnd, time, self);
-        }
-        let drawn = draw::draw(self, slot);
-        let records = self.records as usize;
-        let total = records + drawn.count;
-        if room < total {
-            return refused(Refusal::NoRoom, time, self);
-        }
-        let mut next = drawn.ring;
-        next.time = slot.since;
-        next.records = total as u16;
-        if drawn.count == 0 {
-            return taken(next);
-        }
-        draw::write(self, slot, trail);
-        taken(next)
+        let mut ring = self;
+        let answer = ring.take(send, receive, trail);
+        Stepped { answer, ring }
     }
 
     // Whether the fault terms hold up to the last step taken.
     pub fn verdict(self) -> Judged
         ensures { VerdictPromise self result }
     {
-        if !check::is_ring(self, limits::ROOM_MOST) {
-            return Judged {
-                verdict: Verdict::Refused(Refusal::NotARing, 0),
-                ring: self,
-            };
-        }
-        let faults = self.faults;
-        let time = self.time;
-        let first = terms::first_failing(faults, self.n, time);
-        if first < time {
-            return Judged {
-                verdict: Verdict::Outside(first),
-                ring: self,
-            };
-        }
         Judged {
-            verdict: Verdict::Within,
+            verdict: self.judged(),
             ring: self,
         }
+    }
+
+    // Seat p.
+    fn seat(&self, p: usize) -> Seat
+        requires { p < seats_most }
+        ensures { result ≡ seat_of self.now p }
+    {
+        Seat {
+            set: self.sets[p],
+            ack: self.acks[p],
+            doubt: self.doubts[p],
+            fault: self.faults[p],
+        }
+    }
+
+    // The step taken in its place; a refused one leaves ring and trail as they are. The records are counted before
+    // any is written, so that a step without room leaves no trace. Most steps remove nobody, and then no seat is
+    // looked at again.
+    fn take(&mut self, send: bool, receive: u32, trail: &mut [u8]) -> Result<(), Refused>
+        ensures { StepPromise self.old send receive trail.old (record { answer = result; ring = self.new }) trail.new }
+    {
+        let room = trail::room_for(trail.len());
+        let slot = self.slot(send, receive, room)?;
+        let drawn = draw::draw(self, slot);
+        let records = self.records as usize;
+        let total = records + drawn.count;
+        if room < total {
+            return Err(Refusal::NoRoom.at(self.time as usize));
+        }
+        if drawn.count != 0 {
+            draw::write(self, slot, trail);
+        }
+        *self = Ring {
+            time: self.time + 1,
+            records: total as u16,
+            ..drawn.ring
+        };
+        Ok(())
+    }
+
+    // The slot of the step, where the ring and the marks stand and a run has a slot left.
+    #[tactic(auto, unfolding(crate::specs::Inside::slot_told))]
+    fn slot(&self, send: bool, receive: u32, room: usize) -> Result<Slot, Refused>
+        ensures { result ≡ slot_told self.now send receive room }
+    {
+        if !check::is_ring(self, room) {
+            return Err(Refusal::NotARing.at(0));
+        }
+        let time = self.time as usize;
+        let owner = time % self.n;
+        let seat = self.seat(owner);
+        let slot = Slot {
+            time: self.time,
+            owner,
+            spoken: turn::speak(owner, seat.set, seat.ack, send),
+            send,
+            receive,
+        };
+        if !check::marks_stand(slot, self.n) {
+            return Err(Refusal::WrongMark.at(time));
+        }
+        if time == limits::SLOTS_MOST {
+            return Err(Refusal::AtTheEnd.at(time));
+        }
+        Ok(slot)
+    }
+
+    #[tactic(auto, unfolding(crate::specs::Refusals::verdict_found))]
+    fn judged(&self) -> Result<Verdict, Refused>
+        ensures { found result ≡ verdict_found self.now }
+    {
+        if !check::is_ring(self, limits::ROOM_MOST) {
+            return Err(Refusal::NotARing.at(0));
+        }
+        let first = terms::first_failing(self.faults, self.n, self.time);
+        if first < self.time {
+            return Ok(Verdict::Outside(first));
+        }
+        Ok(Verdict::Within)
     }
 }

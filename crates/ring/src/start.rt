@@ -12,7 +12,7 @@ pub fn zero_ring() -> Ring
         sets: [0; limits::SEATS_MOST],
         acks: [false; limits::SEATS_MOST],
         doubts: [false; limits::SEATS_MOST],
-        faults: [0; limits::SEATS_MOST],
+        faults: [None; limits::SEATS_MOST],
         n: 0,
         time: 0,
         records: 0,
@@ -27,11 +27,9 @@ pub fn fresh_ring(n: usize) -> Ring
     let full = seats::full(n);
     let mut ring = zero_ring();
     ring.n = n;
-    let mut p: usize = 0;
-    while p < n {
+    for p in 0..n {
         ring.sets[p] = full;
         ring.acks[p] = true;
-        p += 1;
     }
     ring
 }

@@ -3,7 +3,7 @@
 use mathlib.Core.Path.{◌≡◌, sym, ap, ap₂, ◌∙◌}
 use mathlib.Core.Bool.{Bool, true, false, not, ◌&&◌, and_comm, ◌||◌}
 use mathlib.Core.Logic.{◌⊎◌, inl, inr, ⊎_elim}
-use Prim.Native.Nat.{ℕ, suc, ◌+◌, ◌^◌, ◌≤◌, ◌<◌}
+use Prim.Native.Nat.{ℕ, suc, ◌+◌, ◌≤◌, ◌<◌}
 use native.Mathlib.Nat.{le_refl}
 use native.Mathlib.Omega.{arith}
 use lib.Dec.{leb, ltb, eqb}
@@ -24,7 +24,7 @@ use Rattle.sheet.specs.Good.{mark_of, GoodSheet}
 use Rattle.sheet.specs.declared.Mark.{Mark}
 use Rattle.sheet.specs.declared.Sheet.{Sheet}
 use Rattle.run.specs.Marks.{says, darkens, owner_at, receive_mark, marks_at}
-use Rattle.run.specs.Inside.{none_gathered, with_mark, slot_over, given_by}
+use Rattle.run.specs.Inside.{none_gathered, with_mark, slot_over, given_by, Gathers, NoneLeft}
 use Rattle.run.specs.declared.marks.Gathered.{Gathered}
 
 -- ---- the marks ascend
@@ -42,22 +42,6 @@ module _ (sheet : Sheet) (good : GoodSheet sheet) where
       rising (λ i. (mark_of sheet i).time) sheet.mark_count (λ i l. above_later (mark_of sheet i) (mark_of sheet (suc i)) (good.ascending i l))
 
 -- ---- what is gathered
-
--- the marks before the place have been gathered for the slot at time t, and those from the place on are not
--- before it
-pub record Gathers (sheet : Sheet) (t : ℕ) (g : Gathered) : Type 0 where
-  pub few : g.next ≤ sheet.mark_count
-  pub past : (i : ℕ) → i < g.next → (mark_of sheet i).time ≤ t
-  pub left : (i : ℕ) → g.next ≤ i → i < sheet.mark_count → t ≤ (mark_of sheet i).time
-  pub sends : (p : ℕ) → has_seat g.send p ≡ any_below g.next (λ i. says send t p (mark_of sheet i))
-  pub receives : (p : ℕ) → has_seat g.receive p ≡ any_below g.next (λ i. says receive t p (mark_of sheet i))
-  pub darks : (p : ℕ) → has_seat g.dark p ≡ any_below g.next (λ i. darkens t p (mark_of sheet i))
-  pub receive_inside : g.receive < 2 ^ sheet.n
-  pub dark_inside : g.dark < 2 ^ sheet.n
-
--- no mark is left at this time
-abbrev pub Whole : Sheet → ℕ → Gathered → Type 0
-Whole sheet t g = (i : ℕ) → g.next ≤ i → i < sheet.mark_count → t < (mark_of sheet i).time
 
 pub none_yet : (sheet : Sheet) → Gathers sheet 0 none_gathered
 none_yet sheet =
@@ -98,14 +82,14 @@ module _ (sheet : Sheet) (good : GoodSheet sheet) (t : ℕ) (g : Gathered) (so :
       }
 
   -- the next mark is at another time, or there is none
-  pub all_gathered : (sheet.mark_count ≤ g.next) ⊎ ((mark_of sheet g.next).time ≡ t → ⊥) → Whole sheet t g
+  pub all_gathered : (sheet.mark_count ≤ g.next) ⊎ ((mark_of sheet g.next).time ≡ t → ⊥) → NoneLeft sheet t g
   all_gathered (inl a) i l h = absurd (omega arith)
   all_gathered (inr n) i l h =
       let a = so.left g.next (le_refl g.next) (omega arith) in
       let b = later_mark sheet good g.next i l h in
       ⊎_elim (λ e. absurd (n (eqb-true _ _ e))) (λ e. let x = eqb-false (mark_of sheet g.next).time t e in omega arith) (both (eqb (mark_of sheet g.next).time t))
 
-  module _ (whole : Whole sheet t g) where
+  module _ (whole : NoneLeft sheet t g) where
     -- a kind said at t is not said at t + 1
     not_yet : (kind p i : ℕ) → i < g.next → says kind (t + 1) p (mark_of sheet i) ≡ false
     not_yet kind p i l = let h = so.past i l in rw (ne_eqb (mark_of sheet i).time (t + 1) (omega arith))

@@ -3,17 +3,18 @@ use mathlib.Core.Path.{◌≡◌, refl, sym, ap, ap₂, ◌∙◌, subst}
 use mathlib.Core.List.{List}
 use mathlib.Core.Logic.{◌⊎◌, inl, inr}
 use Prim.Native.Nat.{ℕ}
-use Rattle.limits.specs.Refusals.{number_of}
+use Rattle.std.specs.Prelude.{Ok, Err}
+use Rattle.limits.specs.Refusals.{number_of, tells}
+use Rattle.limits.specs.declared.Refused.{Refused}
 use Rattle.limits.specs.declared.Refusal.{Refusal}
 use Rattle.ring.specs.Ring.{zero_ring}
 use Rattle.ring.specs.declared.Ring.{Ring}
 use Rattle.limits.proofs.Refusals.{not_done}
 use Rattle.sheet_lines.specs.Found.{Found, found, offence}
 use Rattle.sheet.specs.Good.{GoodSheet}
-use Rattle.sheet.specs.Sheets.{no_sheet, sheet_in, read_tells, read_told, sheet_of, ReadPromise}
+use Rattle.sheet.specs.Sheets.{no_sheet, sheet_in, read_told, sheet_of, ReadPromise}
 use Rattle.sheet.specs.declared.Sheet.{Sheet}
 use Rattle.sheet.specs.declared.Reading.{Reading}
-use Rattle.sheet.specs.declared.ReadAnswer.TheVariants.{Read, Refused}
 use Rattle.sheet.proofs.Good.{read_good}
 use Rattle.run.specs.Outcome.{refused, Result}
 use Rattle.run.specs.Run.{ends, run_sheet, run_of, RunPromise}
@@ -48,26 +49,28 @@ read_is bytes = go (sheet_in bytes) refl
 -- ---- by the reader's answer
 
 module _ (bytes : List ℕ) (r : Reading) (p : ReadPromise bytes r) where
-  read_found : r.answer ≡ Read → (end : ℕ) × (sheet_in bytes ≡ found r.sheet end)
+  read_found : r.answer ≡ Ok tt → (end : ℕ) × (sheet_in bytes ≡ found r.sheet end)
   read_found e = go (sheet_in bytes) refl p.answer p.sheet
     where
-      go : (f : Found Sheet) → sheet_in bytes ≡ f → read_tells r.answer ≡ read_told f → r.sheet ≡ sheet_of f → (end : ℕ) × (sheet_in bytes ≡ found r.sheet end)
+      go : (f : Found Sheet) → sheet_in bytes ≡ f → tells r.answer ≡ read_told f → r.sheet ≡ sheet_of f → (end : ℕ) × (sheet_in bytes ≡ found r.sheet end)
       go (found sheet end) q a s = (end, q ∙ ap (λ (x : Sheet). found x end) (sym s))
-      go (offence why place) q a s = not_done (sym a ∙ ap read_tells e)
+      go (offence why place) q a s = not_done (sym a ∙ ap tells e)
 
   -- a sheet that is read is run
-  pub keeps_read : (t : List ℕ) (x : Ran) (t' : List ℕ) → r.answer ≡ Read → Leaves (run_sheet r.sheet t) x t' → RunPromise bytes t x t'
+  pub keeps_read : (t : List ℕ) (x : Ran) (t' : List ℕ) → r.answer ≡ Ok tt → Leaves (run_sheet r.sheet t) x t' → RunPromise bytes t x t'
   keeps_read t x t' e l = keeps bytes t x t' (subst (λ (y : Result). Leaves y x t') (sym (run_read bytes t (read_found e).1)) l)
 
   -- a refused one is not
-  pub keeps_refused : (t : List ℕ) (why : Refusal) (place : ℕ) (ring : Ring) (x : Ran) → r.answer ≡ Refused why place → ring ≡ zero_ring
-      → Ended (refused (number_of why) place) ring r.sheet.modules x → RunPromise bytes t x t
-  keeps_refused t why place ring x e z l = go (sheet_in bytes) refl (sym (ap read_tells e) ∙ p.answer) p.sheet
+  pub keeps_refused : (t : List ℕ) (refusal : Refused) (ring : Ring) → r.answer ≡ Err refusal → ring ≡ zero_ring
+      → RunPromise bytes t (record { answer = Err refusal; ring = ring; modules = r.sheet.modules }) t
+  keeps_refused t refusal ring e z = go (sheet_in bytes) refl (sym (ap tells e) ∙ p.answer) p.sheet
     where
-      go : (f : Found Sheet) → sheet_in bytes ≡ f → read_tells (Refused why place) ≡ read_told f → r.sheet ≡ sheet_of f → RunPromise bytes t x t
+      go : (f : Found Sheet) → sheet_in bytes ≡ f → tells (Err refusal) ≡ read_told f → r.sheet ≡ sheet_of f
+          → RunPromise bytes t (record { answer = Err refusal; ring = ring; modules = r.sheet.modules }) t
       go (found sheet end) q a s = not_done a
       go (offence why' place') q a s =
-          let n : number_of why ≡ number_of why' = cc in
-          let m : place ≡ place' = cc in
-          let o : Ended (refused (number_of why') place') zero_ring no_sheet.modules x = record { answer = l.answer ∙ ap₂ refused n m; ring = l.ring ∙ z; modules = l.modules ∙ ap (λ (y : Sheet). y.modules) s } in
-          keeps bytes t x t (leaves no_sheet zero_ring t (refused (number_of why') place') x o (run_offence bytes t q))
+          let n : number_of refusal.why ≡ number_of why' = cc in
+          let m : refusal.place ≡ place' = cc in
+          let last : Ran = record { answer = Err refusal; ring = ring; modules = r.sheet.modules } in
+          let o : Ended (refused (number_of why') place') zero_ring no_sheet.modules last = record { answer = ap₂ refused n m; ring = z; modules = ap (λ (y : Sheet). y.modules) s } in
+          keeps bytes t last t (leaves no_sheet zero_ring t (refused (number_of why') place') last o (run_offence bytes t q))

@@ -11,22 +11,22 @@ use borrow.Author.Tests.{eq-eqb, ne_eqb, le-leb}
 use Rattle.limits.specs.Refusals as limits
 use Rattle.turn.specs.Turn.{spoken_by}
 use Rattle.ring.specs.Ring.{seat_of, owner_of, fresh_ring}
-use Rattle.ring.specs.Refusals.{step_tells}
+use Rattle.limits.specs.Refusals.{tells}
 use Rattle.ring.specs.Promise.{FreshPromise, StepPromise}
 use Rattle.ring.specs.declared.Ring.{Ring}
 use Rattle.ring.specs.declared.Stepped.{Stepped}
 use Rattle.steps.specs.Run.{Marks, Bench, told_on, step_on, fresh_bench}
 use Rattle.steps.proofs.Reached.{fresh_n, fresh_time, step_after, step_refused, step_length}
-use Rattle.sheet.specs.Good.{mark_of, heard_in, GoodSheet}
+use Rattle.sheet.specs.Good.{heard_in, GoodSheet}
 use Rattle.sheet.specs.declared.Sheet.{Sheet}
 use Rattle.run.specs.Marks.{owner_at, marks_at}
 use Rattle.run.specs.Outcome.{agrees, differs, Outcome, refused, Result}
 use Rattle.run.specs.Run.{heard_as, spoken_on, ends, judged, run_from, run_sheet}
-use Rattle.run.specs.Inside.{none_gathered, with_mark, slot_over, given_by, Ended, Leaves}
+use Rattle.run.specs.Inside.{none_gathered, slot_over, given_by, Gathers, NoneLeft, Ended, Leaves}
 use Rattle.run.specs.declared.Ran.{Ran}
 use Rattle.run.specs.declared.marks.Gathered.{Gathered}
 use Rattle.run.specs.declared.marks.SlotMarks.{SlotMarks}
-use Rattle.run.proofs.Gathering.{Gathers, Whole, none_yet, mark_more, next_slot, send_given, receive_given}
+use Rattle.run.proofs.Gathering.{none_yet, next_slot, send_given, receive_given}
 
 abbrev pub bench : Ring → List ℕ → Bench
 bench ring trail = record { ring = ring; trail = trail }
@@ -82,22 +82,15 @@ going_start sheet t = record {
 }
 
 module _ {sheet : Sheet} {all : Result} {trail : List ℕ} {r : Ring} {g : Gathered} {at : ℕ} (go : Going sheet all trail r g at) where
-  -- one mark more of this slot
-  pub going_mark : GoodSheet sheet → g.next < sheet.mark_count → (mark_of sheet g.next).time ≡ at
-      → Going sheet all trail r (with_mark g (mark_of sheet g.next)) at
-  going_mark good l e = record {
-    seats = go.seats;
-    time = go.time;
-    within = go.within;
-    gathers = mark_more sheet good at g go.gathers l e;
-    same = go.same;
-  }
+  -- all the marks of this slot are gathered
+  pub going_gathered : {more : Gathered} → Gathers sheet at more → Going sheet all trail r more at
+  going_gathered gathers = record { seats = go.seats; time = go.time; within = go.within; gathers = gathers; same = go.same }
 
   -- no slot is left
   pub going_over : sheet.slot_count ≤ at → all ≡ judged sheet (bench r trail) agrees
   going_over l = sym (go.same zero (let h = go.within in omega arith)) ∙ run_ends sheet (bench r trail)
 
-  module _ (good : GoodSheet sheet) (early : at < sheet.slot_count) (whole : Whole sheet at g) where
+  module _ (good : GoodSheet sheet) (early : at < sheet.slot_count) (whole : NoneLeft sheet at g) where
     abbrev b : Bench
     b = bench r trail
 
@@ -138,7 +131,7 @@ module _ {sheet : Sheet} {all : Result} {trail : List ℕ} {r : Ring} {g : Gathe
       alike : eqb (spoken_on (marks_on sheet b) b) (heard_on sheet b) ≡ true
       alike = eq-eqb (spoken_on (marks_on sheet b) b) (heard_on sheet b) (heard ∙ line)
 
-      answered : step_tells s.answer ≡ told_on (marks_on sheet b) b
+      answered : tells s.answer ≡ told_on (marks_on sheet b) b
       answered = p.answer ∙ ap (λ (m : Marks). told_on m b) marks_given
 
       stepped : bench s.ring t' ≡ step_on (marks_on sheet b) b
@@ -147,13 +140,13 @@ module _ {sheet : Sheet} {all : Result} {trail : List ℕ} {r : Ring} {g : Gathe
       pub going_length : length t' ≡ length trail
       going_length = ap (λ (x : Bench). length x.trail) stepped ∙ step_length (marks_on sheet b) b
 
-      pub going_stops : {number place : ℕ} → step_tells s.answer ≡ limits.refused number place → all ≡ ends sheet (bench s.ring t') (refused number place)
+      pub going_stops : {number place : ℕ} → tells s.answer ≡ limits.refused number place → all ≡ ends sheet (bench s.ring t') (refused number place)
       going_stops {number} {place} e =
           let q = sym answered ∙ e in
           sym from ∙ run_stops sheet b left alike q
           ∙ ap (λ (x : Bench). ends sheet x (refused number place)) (sym (stepped ∙ step_refused (marks_on sheet b) b q))
 
-      pub going_on : step_tells s.answer ≡ limits.done → Going sheet all t' s.ring (slot_over g) (at + 1)
+      pub going_on : tells s.answer ≡ limits.done → Going sheet all t' s.ring (slot_over g) (at + 1)
       unfolding left
       going_on e =
           let q = sym answered ∙ e in

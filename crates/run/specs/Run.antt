@@ -1,12 +1,10 @@
 -- The run of a sheet, document 01: a fresh ring stepped through the slots, the bus compared before each step.
-use Rattle.std.specs.Prelude.{true, false, cond, List, ◌≡◌, ℕ, zero, suc, eqb}
+use Rattle.std.specs.Prelude.{Bool, true, false, cond, Option, None, Some, List, ◌≡◌, ℕ, zero, suc, eqb}
 use Rattle.limits.specs.Refusals as limits
 use Rattle.limits.specs.Refusals.{number_of, Told}
 use Rattle.ring.specs.Ring.{zero_ring}
 use Rattle.ring.specs.Step.{slot_of}
 use Rattle.ring.specs.Refusals.{verdict_found}
-use Rattle.turn.specs.declared.Spoken.{Spoken}
-use Rattle.turn.specs.declared.Spoken.TheVariants.{Nothing, Bit}
 use Rattle.steps.specs.Run.{Marks, Bench, told_on, step_on, fresh_bench}
 use Rattle.sheet_lines.specs.Found.{on_found}
 use Rattle.sheet_lines.specs.Bytes.{heard_one, heard_zero, heard_silence}
@@ -18,10 +16,10 @@ use Rattle.run.specs.Outcome.{Heard, agrees, differs, Outcome, ran, refused, sai
 use Rattle.run.specs.declared.Ran.{Ran}
 
 -- what the bus recorder hears of what is spoken: the bit, or silence
-abbrev pub heard_as : Spoken → ℕ
-heard_as Nothing = heard_silence
-heard_as (Bit true) = heard_one
-heard_as (Bit false) = heard_zero
+abbrev pub heard_as : Option Bool → ℕ
+heard_as None = heard_silence
+heard_as (Some true) = heard_one
+heard_as (Some false) = heard_zero
 
 -- and of the owner of the ring's slot, with these marks
 abbrev pub spoken_on : Marks → Bench → ℕ

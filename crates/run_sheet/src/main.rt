@@ -11,7 +11,8 @@ use std::io::{Read, Write};
 const SHEET_READ: usize = 16384;
 
 // Reads until the buffer is full or the input ends: how many bytes then stand at its start. An error leaves the
-// buffer its length, and of what it holds nothing is said.
+// buffer its length, and of what it holds nothing is said. Each program has its own: no library may name `std::io`
+// (`.ci/axioms`).
 fn read_full(input: &mut impl Read, buffer: &mut [u8]) -> io::Result<usize>
     ensures ok { ReadsAtMost result buffer.new }
     ensures err { OnErr result (length buffer.new ≡ length buffer.old) }
@@ -31,6 +32,6 @@ fn main(rt: HostRuntime) -> io::Result<()> {
     let mut sheet = [0u8; SHEET_READ];
     let got = read_full(&mut rt.stdin(), &mut sheet)?;
     let mut page = report::no_page();
-    let length = sheet_page::page(&sheet[..got], &mut page);
+    let length = sheet_page::page(&sheet[..got], &mut page).unwrap_or(0);
     rt.stdout().write_all(&page[..length])
 }

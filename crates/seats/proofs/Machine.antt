@@ -1,44 +1,22 @@
 -- The machine's own operations on a mask are those of specs/Sets.antt. Assumes nothing.
 use mathlib.Core.Path.{◌≡◌, sym, ap, ap₂, ◌∙◌}
 use mathlib.Core.Logic.{⊎_elim}
-use Prim.Native.Nat.{ℕ, zero, suc, ◌+◌, ◌-◌, ◌*◌, ◌/◌, ◌%◌, ◌^◌, ◌≤◌, ◌<◌, min}
-use native.Mathlib.Nat.{pow-suc, mod-eq_of_lt, div-eq_of_lt, div-eq-sub-div}
+use Prim.Native.Nat.{ℕ, zero, suc, ◌+◌, ◌-◌, ◌*◌, ◌/◌, ◌%◌, ◌^◌, ◌<◌, min}
+use native.Mathlib.Nat.{pow-suc, mod-eq_of_lt}
 use native.Mathlib.Omega.{arith}
-use lib.Dec.{eqb, leb}
-use lib.Pow.{pow_pos, pow-lt, pow_mono, shl_exact}
+use lib.Dec.{eqb}
+use lib.Pow.{pow_pos, pow-lt, shl_exact}
 use lib.Bits.{bit_and, and_step, and_mask}
-use borrow.Author.Tests.{eqb-true, eqb-false, eq-eqb, ne_eqb, leb-true, leb-false}
+use borrow.Author.Tests.{eqb-true, eqb-false}
 use Rattle.lists.proofs.Tests.{both}
-use Rattle.seats.specs.Sets.{has_seat, without_seat, full_set}
+use Rattle.seats.specs.Sets.{has_seat, without_seat}
 use Rattle.seats.proofs.Digits.{digit_zero, digit_suc, digit_le, half_less, odd_less}
 pub use Rattle.seats.proofs.Digits.{ones_in_lem}
-use Rattle.seats.proofs.Sets.{without_is, without_none, full_is}
+use Rattle.seats.proofs.Sets.{without_is, without_none}
 
 -- 1 shifted by less than the width is the power
 pub one_shifted : (j : ℕ) → j < 32 → (1 * 2 ^ j) % 2 ^ 32 ≡ 2 ^ j
 one_shifted j h = shl_exact 1 j 32 (omega arith) (omega arith) ∙ omega arith
-
--- a mask that is more than the full set has a seat n or above
-reaches : (s n : ℕ) → s < 2 ^ 32 → full_set n < s → 2 ^ n ≤ s
-reaches s n h l =
-    ⊎_elim
-    (λ e. let m = leb-true n 32 e in let f = full_is n m in omega arith)
-    (λ e. let m = leb-false n 32 e in let f : min n 32 ≡ 32 = omega arith in absurd (omega (arith, ap (λ (x : ℕ). 2 ^ x - 1) f)))
-    (both (leb n 32))
-
--- a shift by n leaves nothing of a mask within the first n seats
-pub within_is : (s n : ℕ) → s < 2 ^ 32 → eqb (s / 2 ^ n) 0 ≡ leb s (full_set n)
-within_is s n h =
-    ⊎_elim
-    (λ e. let l = leb-true s (full_set n) e in
-    let p = pow_pos (min n 32) in
-    let m = pow_mono {i = min n 32} {j = n} (omega arith) in
-    eq-eqb (s / 2 ^ n) 0 (div-eq_of_lt (omega arith)) ∙ sym e)
-    (λ e. let l = leb-false s (full_set n) e in
-    let p = pow_pos n in
-    let d = div-eq-sub-div {m = 2 ^ n} {n = s} p (reaches s n h l) in
-    ne_eqb (s / 2 ^ n) 0 (omega arith) ∙ sym e)
-    (both (leb s (full_set n)))
 
 -- a removal, one digit down
 without_zero : (s : ℕ) → without_seat s 0 ≡ s / 2 * 2

@@ -8,7 +8,7 @@ ghost use Rattle.seats.specs.Sets.{has_seat, without_seat, full_set, size_of};
 pub fn has(set: u32, j: usize) -> bool
     ensures { result ≡ has_seat set j }
 {
-    if j < 32 { (set >> j) % 2 == 1 } else { false }
+    j < 32 && (set >> j) % 2 == 1
 }
 
 // The set without seat j.
@@ -22,23 +22,19 @@ pub fn without(set: u32, j: usize) -> u32
 pub fn full(n: usize) -> u32
     ensures { result ≡ full_set n }
 {
-    if n < 32 { (1 << n) - 1 } else { 0xffff_ffff }
+    if n < 32 { (1 << n) - 1 } else { u32::MAX }
 }
 
-// Is no seat n or above in the set? The mask is widened, so that a shift by 32 is one like any other.
+// Is no seat n or above in the set? Then it is at most the full set.
 pub fn within(set: u32, n: usize) -> bool
     ensures { result ≡ leb set (full_set n) }
 {
-    if n < 64 {
-        ((set as u64) >> n) == 0
-    } else {
-        true
-    }
+    set <= full(n)
 }
 
 // How many seats are in the set.
 pub fn size(set: u32) -> u32
     ensures { result ≡ size_of set }
 {
-    u32::count_ones(set)
+    set.count_ones()
 }

@@ -1,37 +1,32 @@
 -- Laws of entries, specs/Entries.antt: one law set for the lines of all three sections. Assumes nothing.
-use mathlib.Core.Path.{◌≡◌, refl, sym, ap, ◌∙◌}
-use mathlib.Core.Bool.{Bool, true, false, not, ◌||◌}
+use mathlib.Core.Path.{◌≡◌, sym, ap, ◌∙◌}
+use mathlib.Core.Bool.{true, false, not}
 use mathlib.Core.List.{List}
 use Prim.Native.Nat.{ℕ, suc, ◌+◌, ◌-◌, ◌<◌, ◌≤◌}
 use native.Mathlib.Omega.{arith}
-use lib.ListN.{get_or}
+use lib.ListN.{length, get_or, take}
 use lib.Dec.{eqb}
-use borrow.Author.Tests.{eqb-true, eq-eqb, ne_eqb}
+use borrow.Author.Tests.{eq-eqb, ne_eqb}
+use denote.Ref.{Bor}
+use Rattle.std.proofs.Common.{Result}
+use Rattle.std.proofs.lemmas.List.{length-take-le}
 use Rattle.lists.proofs.Tests.{all_from, all_fails}
 use Rattle.limits.specs.declared.Refusal.{Refusal}
+use Rattle.limits.specs.declared.Refused.{Refused}
 use Rattle.sheet_lines.specs.Found.{Found, found, offence}
-use Rattle.sheet_lines.specs.Bytes.{is_heard, is_kind}
+use Rattle.sheet_lines.specs.Pieces.{found_of}
 use Rattle.sheet.specs.Entries.{lines_at, is_new}
+use Rattle.sheet.specs.Inside.{entered, Enters}
 
--- ---- bytes that are kept as entries
+-- ---- a line that is read, after the entries before it
 
--- one of three bytes is a byte
-one_of_three : (b x y z : ℕ) → x < 256 → y < 256 → z < 256 → (eqb b x || eqb b y || eqb b z) ≡ true → b < 256
-one_of_three b x y z l m n e = third (eqb b x || eqb b y) refl e
-  where
-    second : (t : Bool) → eqb b x ≡ t → (t || eqb b y) ≡ true → b < 256
-    second true p h = omega (arith, eqb-true b x p)
-    second false p h = omega (arith, eqb-true b y h)
-
-    third : (t : Bool) → (eqb b x || eqb b y) ≡ t → (t || eqb b z) ≡ true → b < 256
-    third true p h = second (eqb b x) refl p
-    third false p h = omega (arith, eqb-true b z h)
-
-pub heard_small : (b : ℕ) → is_heard b ≡ true → b < 256
-heard_small b e = one_of_three b 49 48 45 (omega arith) (omega arith) (omega arith) e
-
-pub kind_small : (b : ℕ) → is_kind b ≡ true → b < 256
-kind_small b e = one_of_three b 83 82 68 (omega arith) (omega arith) (omega arith) e
+module _ {A : Type 0} (reads : Bor (List A) → ℕ → Result (A × ℕ) Refused → Type 0) (line : ℕ → ℕ → List A → Found (List A)) where
+  pub enters_at : Enters reads line → (earlier : Bor (List A)) (at : ℕ) (r : Result (A × ℕ) Refused) → reads earlier at r
+      → (k : ℕ) (before : List A) → earlier.now ≡ take k before → k ≤ length before → line at k before ≡ entered before k (found_of r)
+  enters_at h earlier at r m k before e l =
+      let n : length earlier.now ≡ k = ap length e ∙ length-take-le k before l in
+      let q : take (length earlier.now) before ≡ earlier.now = ap (λ i. take i before) n ∙ sym e in
+      ap (λ i. line at i before) (sym n) ∙ h earlier at r m before q ∙ ap (λ i. entered before i (found_of r)) n
 
 -- ---- module numbers that are new
 

@@ -6,22 +6,22 @@ use mathlib.Core.Logic.{inl, inr}
 use Prim.Native.Nat.{ℕ, zero, suc, ◌+◌, ◌-◌, ◌≤◌, ◌<◌}
 use native.Mathlib.Decide.{dec_lt}
 use native.Mathlib.Omega.{arith}
+use Rattle.std.proofs.Common.{Ok}
 use lib.ListN.{length, get_or, set, length-set, length-replicate, get_or-replicate}
 use lib.Seq.{get_or-set_same, get_or-set_other}
 use lib.Dec.{eqb}
 use borrow.Author.Tests.{ne_eqb, eqb-false, not-true}
 use Rattle.limits.specs.Limits.{seats_most, marks_most, slots_most, module_most}
 use Rattle.lists.proofs.Tests.{all_at}
-use Rattle.limits.specs.Refusals.{done}
+use Rattle.limits.specs.Refusals.{done, tells}
 use Rattle.sheet_lines.specs.Found.{Found, found, offence}
 use Rattle.sheet_lines.specs.Bytes.{is_kind, is_heard}
 use Rattle.sheet.specs.Entries.{lines_at, is_new, module_line, slot_line}
 use Rattle.sheet.specs.Marks.{no_mark, above, ascends, mark_line}
-use Rattle.sheet.specs.Sheets.{no_modules, no_marks, no_slots, sheet_in, read_tells, read_told, sheet_of, ReadPromise}
+use Rattle.sheet.specs.Sheets.{no_modules, no_marks, no_slots, sheet_in, read_told, sheet_of, ReadPromise}
 use Rattle.sheet.specs.Good.{GoodSheet}
 use Rattle.sheet.specs.declared.Mark.{Mark}
 use Rattle.sheet.specs.declared.Sheet.{Sheet}
-use Rattle.sheet.specs.declared.ReadAnswer.TheVariants.{Read}
 use Rattle.sheet.specs.declared.Reading.{Reading}
 use Rattle.sheet_lines.proofs.LineLaws.{then_found, line_within, lone_found}
 use Rattle.sheet.proofs.MarkLaws.{Kept, good_mark}
@@ -146,9 +146,9 @@ read_good s sheet end e =
           ∙ get_or-replicate slots_most i 0 0 k;
     }
 
--- for callers: a reading that answers `Read` has a good sheet beside the answer
-pub reading_good : (bytes : List ℕ) (r : Reading) → ReadPromise bytes r → r.answer ≡ Read → GoodSheet r.sheet
-reading_good bytes r p a = go (sheet_in bytes) refl (ap read_tells (sym a) ∙ p.answer) p.sheet
+-- for callers: a reading that answers `Ok` has a good sheet beside the answer
+pub reading_good : (bytes : List ℕ) (r : Reading) → ReadPromise bytes r → r.answer ≡ Ok tt → GoodSheet r.sheet
+reading_good bytes r p a = go (sheet_in bytes) refl (ap tells (sym a) ∙ p.answer) p.sheet
   where
     go : (x : Found Sheet) → sheet_in bytes ≡ x → done ≡ read_told x → r.sheet ≡ sheet_of x → GoodSheet r.sheet
     go (found sheet end) q t s = rw s (read_good bytes sheet end q)

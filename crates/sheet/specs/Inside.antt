@@ -1,35 +1,42 @@
--- What the reader's private answers say in the words of the definitions. Nothing that is promised of `read`
--- rests on this file.
+-- What the reader's private functions answer, in the words of the definitions. Nothing that is promised of
+-- `read` rests on this file.
+use Rattle.std.specs.Prelude.{ℕ, ◌-◌, ◌≡◌, List, length, get_or, set, take, Result, Ok, Err}
+use denote.Ref.{Bor}
 use Rattle.std.proofs.Math.Option.{Option, none, some}
 use Rattle.limits.specs.declared.Refusal.{Refusal}
-use Rattle.sheet_lines.specs.Found.{Found, found, offence}
-use Rattle.sheet.specs.Marks.{mark}
-use Rattle.sheet.specs.Sheets.{no_sheet}
+use Rattle.limits.specs.declared.Refused.{Refused}
+use Rattle.sheet_lines.specs.Found.{Found, found, offence, and_then}
+use Rattle.sheet_lines.specs.Pieces.{found_of}
+use Rattle.sheet.specs.Marks.{no_mark, mark_offence, on_option, fields_at}
 use Rattle.sheet.specs.declared.Mark.{Mark}
 use Rattle.sheet.specs.declared.Sheet.{Sheet}
-use Rattle.sheet_lines.specs.declared.Piece.{Piece}
-use Rattle.sheet_lines.specs.declared.Piece.TheVariants as piece
-use Rattle.sheet.specs.declared.Whole.{Whole}
-use Rattle.sheet.specs.declared.marks.Line.{Line}
-use Rattle.sheet.specs.declared.marks.Check.{Check}
-use Rattle.sheet.specs.declared.marks.Check.TheVariants as check
 
--- what stands beside its end: it was found, unless the end is an offence
-abbrev pub beside : {A : Type 0} → A → Piece → Found A
-beside a (piece.Found value next) = found a next
-beside a (piece.Offence why place) = offence why place
+-- the mark, where nothing speaks against it
+abbrev pub kept_or : Mark → Option Refusal → Result Mark Refusal
+kept_or m none = Ok m
+kept_or m (some why) = Err why
 
-abbrev pub fields_of : Line → Found Mark
-fields_of r = beside (mark r.time r.seat r.kind) r.end
+-- why a mark cannot stand after the earlier ones
+abbrev pub offence_after : ℕ → List Mark → Mark → Option Refusal
+offence_after n earlier m = mark_offence n (length earlier) (get_or earlier (length earlier - 1) no_mark) m
 
-abbrev pub offence_of : Check → Option Refusal
-offence_of check.Good = none
-offence_of (check.Bad why) = some why
+-- the mark on a line, after those on the lines before it
+unfoldable pub next_mark : ℕ → List Mark → List ℕ → ℕ → Found Mark
+next_mark n earlier sheet at =
+    and_then (fields_at sheet at) (λ m next. on_option (offence_after n earlier m) (found m next) (λ why. offence why at))
 
--- what bytes are read as; no sheet stands beside an offence
-abbrev pub stopped_at : Piece → Whole
-stopped_at end = record { sheet = no_sheet; end = end }
+-- what bytes are read as, without the place of their end
+abbrev pub read_of : Found Sheet → Result Sheet Refused
+read_of (found sheet end) = Ok sheet
+read_of (offence why place) = Err (record { why = why; place = place })
 
-abbrev pub whole_of : Found Sheet → Whole
-whole_of (found sheet end) = record { sheet = sheet; end = piece.Found sheet.slot_count end }
-whole_of (offence why place) = stopped_at (piece.Offence why place)
+-- what a line that is read makes of the entries before it: its own is entered in its place
+abbrev pub entered : {A : Type 0} → List A → ℕ → Found A → Found (List A)
+entered before k one = and_then one (λ a next. found (set before k a) next)
+
+-- the reading of a line gives what `line` enters after those entries
+abbrev pub Enters : {A : Type 0} → (Bor (List A) → ℕ → Result (A × ℕ) Refused → Type 0) → (ℕ → ℕ → List A → Found (List A)) → Type 0
+Enters {A} reads line =
+    (earlier : Bor (List A)) (at : ℕ) (r : Result (A × ℕ) Refused) → reads earlier at r
+    → (before : List A) → take (length earlier.now) before ≡ earlier.now
+    → line at (length earlier.now) before ≡ entered before (length earlier.now) (found_of r)

@@ -1,15 +1,13 @@
 -- Run sheets, document 01: what a sheet's bytes are read as, and what is promised of a reading.
 use Rattle.std.specs.Prelude.{ℕ, ◌≡◌, cond, List, length, replicate, ltb}
 use Rattle.limits.specs.Limits.{seats_least, seats_most, marks_most, slots_most}
-use Rattle.limits.specs.Refusals.{number_of, Told, done, refused}
+use Rattle.limits.specs.Refusals.{number_of, Told, done, refused, tells}
 use Rattle.limits.specs.declared.Refusal.TheVariants.{BytesAfter}
 use Rattle.sheet_lines.specs.Found.{Found, found, offence, and_then}
 use Rattle.sheet.specs.Entries.{count_line, entries_at, module_line, slot_line}
 use Rattle.sheet.specs.Marks.{no_mark, mark_line}
 use Rattle.sheet.specs.declared.Mark.{Mark}
 use Rattle.sheet.specs.declared.Sheet.{Sheet}
-use Rattle.sheet.specs.declared.ReadAnswer.{ReadAnswer}
-use Rattle.sheet.specs.declared.ReadAnswer.TheVariants.{Read, Refused}
 use Rattle.sheet.specs.declared.Reading.{Reading}
 
 unfoldable pub no_modules : List ℕ
@@ -44,11 +42,6 @@ sheet_in bytes =
 
 -- ---- what is promised of a reading
 
--- what an answer says
-abbrev pub read_tells : ReadAnswer → Told
-read_tells Read = done
-read_tells (Refused why place) = refused (number_of why) place
-
 -- what the answer is to say
 abbrev pub read_told : Found Sheet → Told
 read_told (found sheet end) = done
@@ -60,5 +53,5 @@ sheet_of (found sheet end) = sheet
 sheet_of (offence why place) = no_sheet
 
 pub record ReadPromise (bytes : List ℕ) (r : Reading) : Type 0 where
-  pub answer : read_tells r.answer ≡ read_told (sheet_in bytes)
+  pub answer : tells r.answer ≡ read_told (sheet_in bytes)
   pub sheet : r.sheet ≡ sheet_of (sheet_in bytes)

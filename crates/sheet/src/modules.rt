@@ -1,54 +1,34 @@
 // The lines of the first section: the module numbers, all different.
 ghost use Rattle.std.specs.Prelude.{◌≡◌, ◌≤◌};
 ghost use Rattle.limits.specs.Limits.{seats_most};
+ghost use Rattle.sheet_lines.specs.Pieces.{found_of};
 ghost use Rattle.sheet.specs.Entries.{entries_at, module_line};
 ghost use Rattle.sheet.specs.Sheets.{no_modules};
-ghost use Rattle.sheet.specs.Inside.{beside};
 
-use crate::empty;
-use limits::Refusal;
+use limits::{Refusal, Refused};
 use sheet_lines::Piece;
 
-// Module numbers; and how many there are with the place after them, or the offence.
-#[derive(Clone, Copy)]
-pub struct Modules {
-    pub list: [u16; limits::SEATS_MOST],
-    pub end: Piece,
-}
-
-// So many module lines from `start` on.
-pub fn module_lines(s: &[u8], start: usize, count: usize) -> Modules
+// So many module lines from `start` on. No call of `entries`: document 01 wants the search for an equal number
+// nested in the lines, and left by a label.
+pub fn module_lines(s: &[u8], start: usize, count: usize) -> Piece<[u16; limits::SEATS_MOST]>
     requires { count ≤ seats_most }
-    ensures { beside result.list result.end ≡ entries_at (module_line s.now) no_modules count start }
+    ensures { found_of result ≡ entries_at (module_line s.now) no_modules count start }
 {
-    let mut list = empty::no_modules();
+    let mut list = [0; limits::SEATS_MOST];
     let mut at = start;
-    let mut k: usize = 0;
-    'lines: while k < count {
-        let one = sheet_lines::line(s, at, 1, limits::MODULE_MOST);
-        let Piece::Found(value, next) = one else {
-            return Modules { list, end: one };
-        };
-        let number = value as u16;
-        let mut j: usize = 0;
-        while j < k {
-            if list[j] == number {
-                break 'lines;
+    'lines: {
+        for k in 0..count {
+            let (value, next) = sheet_lines::line(s, at, 1, limits::MODULE_MOST)?;
+            let number = value as u16;
+            for j in 0..k {
+                if list[j] == number {
+                    break 'lines;
+                }
             }
-            j += 1;
+            list[k] = number;
+            at = next;
         }
-        list[k] = number;
-        k += 1;
-        at = next;
+        return Ok((list, at));
     }
-    if k < count {
-        return Modules {
-            list,
-            end: Piece::Offence(Refusal::ModuleTwice, at),
-        };
-    }
-    Modules {
-        list,
-        end: Piece::Found(count, at),
-    }
+    Err(Refusal::ModuleTwice.at(at))
 }

@@ -3,12 +3,12 @@
 use mathlib.Core.List.{List, [], ◌∷◌}
 use mathlib.Core.Path.{◌≡◌, refl, sym, ap, ◌∙◌}
 use Prim.Native.Nat.{ℕ}
-use Rattle.limits.specs.Refusals.{done, refused}
+use Rattle.limits.specs.Refusals.{done, refused, tells}
 use Rattle.sheet_lines.specs.Bytes.{byte_at, digits_at, number_at}
 use Rattle.sheet_lines.specs.Lines.{end_at, ended, line_at, spaced_at}
 use Rattle.sheet.specs.Entries.{lines_at, is_new, module_line, slot_line}
 use Rattle.sheet.specs.Marks.{mark_offence, fields_at, mark_line}
-use Rattle.sheet.specs.Sheets.{no_modules, no_marks, no_slots, sheet_in, read_tells, read_told}
+use Rattle.sheet.specs.Sheets.{no_modules, no_marks, no_slots, sheet_in, read_told}
 use Rattle.sheet.specs.declared.Reading.{Reading}
 use Rattle.limits.proofs.Refusals.{not_done}
 use Rattle.sheet_laws.specs.EmptyReader.{Reader, Keeps, RefusesAll, Constant}
@@ -42,5 +42,5 @@ pub constant_read : ShutOut Constant
 constant_read f (r, same) keeps =
     not_done
     (sym ((keeps []).answer ∙ empty_refused)
-    ∙ ap (λ (x : Reading). read_tells x.answer) (same [] ∙ sym (same good))
+    ∙ ap (λ (x : Reading). tells x.answer) (same [] ∙ sym (same good))
     ∙ (keeps good).answer ∙ good_read)

@@ -4,7 +4,6 @@ use mathlib.Core.Bool.{Bool, true, false, cond}
 use mathlib.Core.List.{List}
 use mathlib.Core.Option.{Option, none, some}
 use Prim.Native.Nat.{ℕ, zero, suc, ◌+◌, ◌*◌, ◌-◌}
-use native.Mathlib.Omega.{arith}
 use lib.Dec.{ltb, eqb}
 use lib.ListN.{length, get_or, set}
 use Rattle.limits.specs.Limits.{seats_least, seats_most, marks_most, slots_most, module_most}
@@ -26,7 +25,7 @@ abbrev Only : {A : Type 0} → Found A → Type 0
 Only f = (why : Refusal) (place : ℕ) → f ≡ offence why place → of_sheet why ≡ true
 
 only_found : {A : Type 0} (a : A) (n : ℕ) → Only (found a n)
-only_found a n why place e = let z : ◌≡◌ {A = ℕ} 0 1 = cc in absurd (omega arith)
+only_found a n why place e = absurd (cc)
 
 only_offence : {A : Type 0} (why : Refusal) (place : ℕ) → of_sheet why ≡ true → Only {A = A} (offence why place)
 only_offence why place l why' place' e = let q : why ≡ why' = cc in rw (← q) l

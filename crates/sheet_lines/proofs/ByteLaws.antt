@@ -1,25 +1,22 @@
 -- Laws of one byte of a sheet, specs/Bytes.antt, and of its class. Assumes nothing.
 use mathlib.Core.Path.{◌≡◌, refl, sym, ap, ◌∙◌}
-use mathlib.Core.Bool.{Bool, true, false, cond, not, false≢true, ◌||◌}
+use mathlib.Core.Bool.{Bool, true, false, cond}
 use mathlib.Core.List.{List}
 use Prim.Native.Nat.{ℕ, ◌+◌, ◌≤◌, ◌<◌}
-use native.Mathlib.Omega.{arith}
 use lib.ListN.{length, get_or}
-use lib.Dec.{ltb, eqb}
+use lib.Dec.{ltb}
 use borrow.Author.Tests.{lt-ltb, le-ltb, ltb-true}
-use Rattle.lists.specs.Counted.{all_below}
-use Rattle.lists.proofs.Tests.{all_at}
+use Rattle.std.proofs.lemmas.Bool.{agree_below_at}
 use Rattle.limits.specs.declared.Refusal.TheVariants.{EndsEarly, WrongByte}
 use Rattle.sheet_lines.specs.Found.{found, offence}
-use Rattle.sheet_lines.specs.Bytes.{byte_at}
-use Rattle.sheet_lines.specs.Classes.{can_be, class_of, code_of}
+use Rattle.sheet_lines.specs.Bytes.{is_digit, is_space, is_line_feed, is_kind, is_heard, byte_at}
+use Rattle.sheet_lines.specs.Classes.{class_of}
 use Rattle.sheet_lines.specs.declared.bytes.Class.{Class}
-use Rattle.sheet_lines.specs.declared.Want.{Want}
-use Rattle.sheet_lines.specs.declared.Want.TheVariants.{Digit, Space, Feed, Kind, Heard}
+use Rattle.sheet_lines.specs.declared.bytes.Class.TheVariants.{Bit, Digit, Space, Feed, Kind, Silence}
 
 -- two outcomes that differ are not equal
 pub not_both : {A X : Type 0} {a : A} {n : ℕ} (why : _) {place : ℕ} → offence why place ≡ found a n → X
-not_both why e = let z : ◌≡◌ {A = ℕ} 0 1 = cc in absurd (omega arith)
+not_both why e = absurd (cc)
 
 -- ---- a byte at a place
 
@@ -56,35 +53,46 @@ module _ (can : ℕ → Bool) (s : List ℕ) (at : ℕ) where
       go true false p q h = not_both _ h
       go false u p q h = not_both _ h
 
--- ---- classes
+-- ---- classes: a byte can stand there where its class is one of these, tried at every byte
 
--- what a class that is wanted is
-abbrev pub class_can : Want → Class → Bool
-class_can Digit c = eqb (code_of c) 0 || eqb (code_of c) 1
-class_can Space c = eqb (code_of c) 2
-class_can Feed c = eqb (code_of c) 3
-class_can Kind c = eqb (code_of c) 4
-class_can Heard c = eqb (code_of c) 0 || eqb (code_of c) 5
+abbrev pub of_digit : Class → Bool
+of_digit Bit = true
+of_digit Digit = true
+of_digit _ = false
 
-same : Bool → Bool → Bool
-same a b = cond a b (not b)
+abbrev pub of_space : Class → Bool
+of_space Space = true
+of_space _ = false
 
-same_is : (a b : Bool) → same a b ≡ true → a ≡ b
-unfolding same
-same_is true true e = refl
-same_is true false e = absurd (false≢true e)
-same_is false true e = absurd (false≢true e)
-same_is false false e = refl
+abbrev pub of_line_feed : Class → Bool
+of_line_feed Feed = true
+of_line_feed _ = false
 
--- tried at every byte
-tried : (w : Want) → all_below 256 (λ b. same (can_be w b) (class_can w (class_of b))) ≡ true
-unfolding same class_of
-tried Digit = refl
-tried Space = refl
-tried Feed = refl
-tried Kind = refl
-tried Heard = refl
+abbrev pub of_kind : Class → Bool
+of_kind Kind = true
+of_kind _ = false
 
--- a byte can stand where its class is the one that is wanted
-pub suits : (w : Want) (b : ℕ) → b < 256 → can_be w b ≡ class_can w (class_of b)
-suits w b l = same_is _ _ (all_at (λ b. same (can_be w b) (class_can w (class_of b))) 256 b (tried w) l)
+abbrev pub of_heard : Class → Bool
+of_heard Bit = true
+of_heard Silence = true
+of_heard _ = false
+
+pub digits : (b : ℕ) → b < 256 → is_digit b ≡ of_digit (class_of b)
+unfolding class_of
+digits b l = agree_below_at is_digit (λ b. of_digit (class_of b)) 256 b refl l
+
+pub spaces : (b : ℕ) → b < 256 → is_space b ≡ of_space (class_of b)
+unfolding class_of
+spaces b l = agree_below_at is_space (λ b. of_space (class_of b)) 256 b refl l
+
+pub feeds : (b : ℕ) → b < 256 → is_line_feed b ≡ of_line_feed (class_of b)
+unfolding class_of
+feeds b l = agree_below_at is_line_feed (λ b. of_line_feed (class_of b)) 256 b refl l
+
+pub kinds : (b : ℕ) → b < 256 → is_kind b ≡ of_kind (class_of b)
+unfolding class_of
+kinds b l = agree_below_at is_kind (λ b. of_kind (class_of b)) 256 b refl l
+
+pub bus_marks : (b : ℕ) → b < 256 → is_heard b ≡ of_heard (class_of b)
+unfolding class_of
+bus_marks b l = agree_below_at is_heard (λ b. of_heard (class_of b)) 256 b refl l

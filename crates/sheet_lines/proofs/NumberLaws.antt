@@ -4,7 +4,7 @@ use mathlib.Core.Bool.{true}
 use mathlib.Core.List.{List}
 use Prim.Native.Nat.{ℕ, suc, zero, ◌+◌, ◌*◌, ◌-◌, ◌^◌, ◌≤◌, ◌<◌}
 use native.Mathlib.Nat.{pow-suc, pow-le-pow_right, lt_of_lt_of_le}
-use native.Mathlib.Numerals.{sub-one}
+use native.Mathlib.Numerals.{add-one, sub-one}
 use native.Mathlib.Omega.{arith}
 use lib.Dec.{leb, lit<}
 use borrow.Author.Tests.{leb-true}
@@ -39,19 +39,13 @@ pub digits_end : (k v : ℕ) (s : List ℕ) (at : ℕ) → k ≤ 0 → digits_at
 unfolding digits_at
 digits_end k v s at h = let e : k ≡ 0 = omega arith in rw e
 
--- ---- a value of five digits at most
+-- ---- a value of five digits at most: after a first digit and k more
 
--- with `left` of five digits to come, the value has the others
-abbrev pub Below : ℕ → ℕ → Type 0
-Below left v = (k : ℕ) → k + left ≡ 5 → v < 10 ^ k
+pub value_more : (k v d : ℕ) → d < 10 → v < 10 ^ (k + 1) → v * 10 + d < 10 ^ (k + 1 + 1)
+value_more k v d l h = rw (add-one (k + 1), pow-suc) (omega arith)
 
-pub below_more : (left v d : ℕ) → 0 < left → left ≤ 4 → d < 10 → Below left v → Below (left - 1) (v * 10 + d)
-below_more left v d p q r h zero e = absurd (omega arith)
-below_more left v d p q r h (suc k) e = rw (pow-suc 10 k) (omega (arith, h k (omega arith)))
-
-pub below_small : (left v : ℕ) → 0 < left → left ≤ 4 → Below left v → v < 10000
-below_small left v p q h =
-    let e : 5 - left + left ≡ 5 = omega arith in
-    let d : 5 - left ≤ 4 = omega arith in
-    let m : 10 ^ (5 - left) ≤ 10 ^ 4 = pow-le-pow_right (lit< tt) d in
-    lt_of_lt_of_le (h (5 - left) e) m
+pub value_small : (k v : ℕ) → k < 4 → v < 10 ^ (k + 1) → v < 10000
+value_small k v l h =
+    let d : k + 1 ≤ 4 = omega arith in
+    let m : 10 ^ (k + 1) ≤ 10 ^ 4 = pow-le-pow_right (lit< tt) d in
+    lt_of_lt_of_le h m

@@ -1,9 +1,8 @@
 -- What a piece that was read says, in the words of the definitions.
-use Rattle.std.specs.Prelude.{ℕ}
+use Rattle.std.specs.Prelude.{ℕ, Result, Ok, Err}
+use Rattle.limits.specs.declared.Refused.{Refused}
 use Rattle.sheet_lines.specs.Found.{Found, found, offence}
-use Rattle.sheet_lines.specs.declared.Piece.{Piece}
-use Rattle.sheet_lines.specs.declared.Piece.TheVariants as piece
 
-abbrev pub found_of : Piece → Found ℕ
-found_of (piece.Found value next) = found value next
-found_of (piece.Offence why place) = offence why place
+abbrev pub found_of : {A : Type 0} → Result (A × ℕ) Refused → Found A
+found_of (Ok r) = found r.0 r.1
+found_of (Err r) = offence r.why r.place

@@ -1,12 +1,12 @@
 // The bytes of a sheet: what each is, and which may stand at a place. Refusals 1 and 2 arise here and nowhere
 // else.
-ghost use Rattle.std.specs.Prelude.{◌≡◌, eqb};
-ghost use Rattle.sheet_lines.specs.Bytes.{byte_at};
-ghost use Rattle.sheet_lines.specs.Classes.{can_be, class_of, code_of};
+ghost use Rattle.std.specs.Prelude.{◌≡◌, ℕ, Bool};
+ghost use Rattle.sheet_lines.specs.Bytes.{byte_at, is_digit, is_space, is_line_feed, is_kind, is_heard};
+ghost use Rattle.sheet_lines.specs.Classes.{class_of, Tests};
 ghost use Rattle.sheet_lines.specs.Pieces.{found_of};
 
-use crate::{Piece, Want};
-use limits::Refusal;
+use crate::Piece;
+use limits::{Refusal, Refused};
 
 // What a byte of a sheet can be. 0 and 1 are digits, and are heard on the bus too.
 #[derive(Clone, Copy)]
@@ -35,65 +35,56 @@ fn classify(b: u8) -> Class
     }
 }
 
-impl Class {
-    fn code(self) -> u8
-        ensures { result ≡ code_of self }
-    {
-        match self {
-            Class::Bit => 0,
-            Class::Digit => 1,
-            Class::Space => 2,
-            Class::Feed => 3,
-            Class::Kind => 4,
-            Class::Silence => 5,
-            Class::Other => 6,
-        }
-    }
-
-    // Two classes are compared by their numbers.
-    fn is(self, other: Class) -> bool
-        ensures { result ≡ eqb (code_of self) (code_of other) }
-    {
-        let a = self.code();
-        let b = other.code();
-        a == b
-    }
-}
-
-// Can the byte stand where this is wanted?
-#[tactic(auto, using(crate::proofs::ByteLaws::suits))]
-fn fits(b: u8, want: Want) -> bool
-    ensures { result ≡ can_be want b }
+// Which byte may stand where, by its class.
+#[tactic(auto, using(crate::proofs::ByteLaws::digits))]
+pub fn is_digit(b: u8) -> bool
+    ensures { result ≡ is_digit b }
 {
-    let c = classify(b);
-    match want {
-        Want::Digit => if c.is(Class::Bit) {
-            true
-        } else {
-            c.is(Class::Digit)
-        },
-        Want::Space => c.is(Class::Space),
-        Want::Feed => c.is(Class::Feed),
-        Want::Kind => c.is(Class::Kind),
-        Want::Heard => if c.is(Class::Bit) {
-            true
-        } else {
-            c.is(Class::Silence)
-        },
-    }
+    matches!(classify(b), Class::Bit | Class::Digit)
 }
 
-// The byte at a place, where it is one that is wanted.
+#[tactic(auto, using(crate::proofs::ByteLaws::spaces))]
+pub fn is_space(b: u8) -> bool
+    ensures { result ≡ is_space b }
+{
+    matches!(classify(b), Class::Space)
+}
+
+#[tactic(auto, using(crate::proofs::ByteLaws::feeds))]
+pub fn is_line_feed(b: u8) -> bool
+    ensures { result ≡ is_line_feed b }
+{
+    matches!(classify(b), Class::Feed)
+}
+
+#[tactic(auto, using(crate::proofs::ByteLaws::kinds))]
+pub fn is_kind(b: u8) -> bool
+    ensures { result ≡ is_kind b }
+{
+    matches!(classify(b), Class::Kind)
+}
+
+#[tactic(auto, using(crate::proofs::ByteLaws::bus_marks))]
+pub fn is_heard(b: u8) -> bool
+    ensures { result ≡ is_heard b }
+{
+    matches!(classify(b), Class::Bit | Class::Silence)
+}
+
+// The byte at a place, where it passes the test of what can stand there.
 #[tactic(auto, unfolding(crate::specs::Bytes::byte_at))]
-pub fn byte(s: &[u8], at: usize, want: Want) -> Piece
-    ensures { found_of result ≡ byte_at (can_be want) s.now at }
+pub fn byte<F: Fn(u8) -> bool>(s: &[u8], at: usize, can: F) -> Piece<u8>
+    ghost may: { ℕ → Bool }
+    requires called { F.IsAlwaysCallable can }
+    requires tests { Tests (F.post can) may }
+    ensures { found_of result ≡ byte_at may s.now at }
 {
-    if at < s.len() {
-        let b = s[at];
-        if fits(b, want) {
-            return Piece::Found(b as usize, at + 1);
-        }
-        return Piece::Offence(Refusal::WrongByte, at);
+    let Some(&b) = s.get(at) else {
+        return Err(Refusal::EndsEarly.at(s.len()));
+    };
+    if can(b) {
+        Ok((b, at + 1))
+    } else {
+        Err(Refusal::WrongByte.at(at))
     }
-    Piece::Offence(Refusal::EndsEarly, s.len())
 }

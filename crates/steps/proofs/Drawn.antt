@@ -2,6 +2,7 @@
 use mathlib.Core.Path.{◌≡◌}
 use mathlib.Core.Bool.{false}
 use Prim.Native.Nat.{ℕ, ◌≤◌, ◌<◌}
+use Rattle.std.specs.Prelude.{None}
 use Rattle.lists.proofs.Counted.{drawn_below, drawn_above}
 use Rattle.ring.specs.Ring.{seat_of, drawn_to}
 use Rattle.ring.specs.declared.Ring.{Ring}
@@ -13,7 +14,7 @@ module _ (k : ℕ) (r : Ring) (seat : ℕ → Seat) (p : ℕ) where
       let s = drawn_below k (λ q. (seat q).set) r.sets 0 p l in
       let a = drawn_below k (λ q. (seat q).ack) r.acks false p l in
       let d = drawn_below k (λ q. (seat q).doubt) r.doubts false p l in
-      let f = drawn_below k (λ q. (seat q).fault) r.faults 0 p l in
+      let f = drawn_below k (λ q. (seat q).fault) r.faults None p l in
       λ i. record { set = s i; ack = a i; doubt = d i; fault = f i }
 
   pub undrawn_seat : k ≤ p → seat_of (drawn_to k r seat) p ≡ seat_of r p
@@ -21,5 +22,5 @@ module _ (k : ℕ) (r : Ring) (seat : ℕ → Seat) (p : ℕ) where
       let s = drawn_above k (λ q. (seat q).set) r.sets 0 p l in
       let a = drawn_above k (λ q. (seat q).ack) r.acks false p l in
       let d = drawn_above k (λ q. (seat q).doubt) r.doubts false p l in
-      let f = drawn_above k (λ q. (seat q).fault) r.faults 0 p l in
+      let f = drawn_above k (λ q. (seat q).fault) r.faults None p l in
       λ i. record { set = s i; ack = a i; doubt = d i; fault = f i }

@@ -11,6 +11,7 @@ use lib.ListN.{length}
 use Rattle.limits.specs.Limits.{seats_least, seats_most}
 use Rattle.limits.specs.Refusals.{done, refused}
 use Rattle.limits.proofs.Refusals.{told_is}
+use Rattle.std.specs.Prelude.{Option, None}
 use Rattle.lists.proofs.Counted.{get_or_alike}
 use Rattle.seats.proofs.Sets.{full_is}
 use Rattle.ring.specs.Ring.{seat_of, no_seat, fresh_seat, zero_ring, fresh_ring}
@@ -43,7 +44,7 @@ fresh_seat_lem n = drawn_seat n zero_ring (λ q. fresh_seat n)
 
 zero_seat : (p : ℕ) → seat_of zero_ring p ≡ no_seat
 unfolding zero_ring
-zero_seat p = rw (get_or_alike {A = ℕ} seats_most p 0, get_or_alike {A = Bool} seats_most p false)
+zero_seat p = rw (get_or_alike {A = ℕ} seats_most p 0, get_or_alike {A = Bool} seats_most p false, get_or_alike {A = Option ℕ} seats_most p None)
 
 pub fresh_beyond : (n p : ℕ) → n ≤ p → seat_of (fresh_ring n) p ≡ no_seat
 unfolding fresh_ring

@@ -1,61 +1,150 @@
 -- The search finds the first step up to which the fault terms fail. Assumes nothing.
-use mathlib.Core.Path.{◌≡◌, refl, sym, ap, ◌∙◌}
-use mathlib.Core.Bool.{Bool, true, false, cond, not, true≢false, ◌||◌}
-use mathlib.Core.List.{List}
+use mathlib.Core.Path.{◌≡◌, refl, sym, ap, ap₂, ◌∙◌}
+use mathlib.Core.Bool.{Bool, true, false, cond, not, true≢false, ◌&&◌, ◌||◌}
+use mathlib.Core.List.{List, [], ◌∷◌}
 use mathlib.Core.Logic.{◌⊎◌, inl, inr, ⊎_elim}
-use Prim.Native.Nat.{ℕ, zero, suc, ◌+◌, ◌-◌, ◌≤◌, ◌<◌}
-use native.Mathlib.Nat.{le_refl}
+use Prim.Native.Nat.{ℕ, zero, suc, ◌+◌, ◌-◌, ◌≤◌, ◌<◌, min}
+use native.Mathlib.Nat.{le_refl, zero-add}
 use native.Mathlib.Numerals.{add-one}
 use native.Mathlib.Omega.{arith}
 use lib.Dec.{leb, ltb, eqb}
-use lib.ListN.{get_or}
+use lib.ListN.{length, get_or, take}
+use Rattle.std.proofs.Common.{Option, Some, None}
+use Rattle.std.specs.List.{list_all, enumerate_from, filter_map, cons_option, reduce, fold, count_by}
+use Rattle.std.proofs.lemmas.List.{get_or-take, length-take}
+use Rattle.std.proofs.lemmas.List.Elements.{All-from_get_or}
+use Rattle.std.proofs.lemmas.List.Folds.{list_all_at}
+use Rattle.std.proofs.lemmas.List.FromFn.{length-enumerate_from, get_or-enumerate_from}
+use Rattle.std.proofs.lemmas.List.Sums.{list_all-from_AllPass, sum_by-cons}
 use borrow.Author.Tests.{lt-ltb, le-leb, lt-leb, ne_eqb, ltb-true, leb-true, leb-false, eqb-false, not-false}
-use Rattle.lists.specs.Counted.{all_below, count_below}
-use Rattle.lists.proofs.Counted.{sum_mono, below_last}
-use Rattle.lists.proofs.Tests.{both, and-true, and-false, and_fails, and_of, all_fails, all_not, first_none, first_is}
-use Rattle.terms.specs.Terms.{faulty_by, distance, apart_by, terms_hold, first_failing}
-use Rattle.terms.specs.Search.{by_step, too_close, keeps_apart, sound_after, holds_with, failing_at, earlier, earliest, first_found}
+use Rattle.lists.specs.Counted.{sum, all_below, count_below}
+use Rattle.lists.proofs.Counted.{sum_same, sum_split, sum_mono, below_last}
+use Rattle.lists.proofs.Tests.{both, and-true, and-false, and_fails, and_of, all_at, all_fails, all_not, first_none, first_is}
+use Rattle.lists.specs.Kept.{kept}
+use Rattle.terms.specs.Terms.{first_of, faulty_by, distance, apart_by, terms_hold, first_failing}
+use Rattle.terms.specs.Search.{by_step, too_close, keeps_apart, sound_after, holds_with, failing_at, first_found}
 
--- ---- the earliest of some numbers, where 0 is none
+-- ---- what chains of a slice make, place by place
 
-earlier_low : (f g : ℕ) → 0 < f → (0 < earlier f g) × (earlier f g ≤ f)
-earlier_low zero g h = absurd (omega arith)
-earlier_low (suc f) zero h = (omega arith, le_refl (suc f))
-earlier_low (suc f) (suc g) h = (omega arith, omega arith)
+module _ {A : Type 0} (d : A) (t : ℕ × A → Bool) (xs : List A) where
+  abbrev at_place : ℕ → Bool
+  at_place q = t (q, get_or xs q d)
 
-earlier_high : (f g : ℕ) → 0 < g → (0 < earlier f g) × (earlier f g ≤ g)
-earlier_high zero g h = (h, le_refl g)
-earlier_high (suc f) zero h = absurd (omega arith)
-earlier_high (suc f) (suc g) h = (omega arith, omega arith)
+  place_is : (q : ℕ) → q < length xs → t (get_or (enumerate_from 0 xs) q (0, d)) ≡ at_place q
+  place_is q l = ap t (get_or-enumerate_from 0 xs q (0, d) l ∙ ap (λ (x : ℕ). (x, get_or xs q d)) (zero-add q))
 
-earlier_one : (f g : ℕ) → (earlier f g ≡ f) ⊎ (earlier f g ≡ g)
-earlier_one zero g = inr refl
-earlier_one (suc f) zero = inl refl
-earlier_one (suc f) (suc g) = ⊎_elim (λ e. inl (omega (arith, leb-true (suc f) (suc g) e))) (λ e. inr (omega (arith, leb-false (suc f) (suc g) e))) (both (leb (suc f) (suc g)))
+  all_listed : list_all t (enumerate_from 0 xs) ≡ all_below (length xs) at_place
+  all_listed = ⊎_elim passes fails (both (all_below (length xs) at_place))
+    where
+      fails : all_below (length xs) at_place ≡ false → list_all t (enumerate_from 0 xs) ≡ all_below (length xs) at_place
+      fails e =
+          let r = all_not at_place (length xs) e in
+          list_all_at t (enumerate_from 0 xs) r.0 (0, d) (omega (arith, r.1, length-enumerate_from 0 xs)) (place_is r.0 r.1 ∙ r.2) ∙ sym e
 
--- it is not after any of them
-earliest_le : (k : ℕ) (f : ℕ → ℕ) (i : ℕ) → i < k → 0 < f i → (0 < earliest k f) × (earliest k f ≤ f i)
-earliest_le zero f i l h = absurd (omega arith)
-earliest_le (suc k) f i l h =
+      passes : all_below (length xs) at_place ≡ true → list_all t (enumerate_from 0 xs) ≡ all_below (length xs) at_place
+      passes e =
+          list_all-from_AllPass t (enumerate_from 0 xs)
+          (All-from_get_or (λ x. t x ≡ true) (enumerate_from 0 xs) (0, d) (λ q l.
+          let m : q < length xs = omega (arith, l, length-enumerate_from 0 xs) in
+          place_is q m ∙ all_at at_place (length xs) q e m))
+          ∙ sym e
+
+count_listed : {A : Type 0} (d : A) (t : A → Bool) (xs : List A) → count_by t xs ≡ count_below (length xs) (λ q. t (get_or xs q d))
+count_listed d t [] = refl
+count_listed d t (x ∷ xs) =
+    let f : ℕ → ℕ = λ q. cond (t (get_or (x ∷ xs) q d)) 1 0 in
+    let next : sum (length xs) (λ q. f (1 + q)) ≡ count_below (length xs) (λ q. t (get_or xs q d)) =
+    sum_same (λ q. f (1 + q)) (λ q. cond (t (get_or xs q d)) 1 0) (length xs)
+    (λ q l. let e : 1 + q ≡ suc q = omega arith in ap f e) in
+    let e : 1 + length xs ≡ suc (length xs) = omega arith in
+    let u : count_by t (x ∷ xs) ≡ cond (t x) 1 0 + count_by t xs = sum_by-cons (λ y. cond (t y) 1 0) x xs in
+    omega (arith, u, count_listed d t xs, next, sum_split f 1 (length xs), ap (λ (k : ℕ). sum k f) e)
+
+all_same : (f g : ℕ → Bool) (k : ℕ) → ((i : ℕ) → i < k → f i ≡ g i) → all_below k f ≡ all_below k g
+all_same f g zero h = refl
+all_same f g (suc k) h = ap₂ (λ (a b : Bool). a && b) (all_same f g k (λ i l. h i (omega arith))) (h k (omega arith))
+
+-- ---- the least of those that a chain keeps
+
+fold_start : (a : ℕ) (xs : List ℕ) → fold min a xs ≤ a
+fold_start a [] = le_refl a
+fold_start a (x ∷ xs) = omega (arith, fold_start (min a x) xs)
+
+fold_le : (a : ℕ) (xs : List ℕ) (k : ℕ) → k < length xs → fold min a xs ≤ get_or xs k 0
+fold_le a [] k l = absurd (omega arith)
+fold_le a (x ∷ xs) zero l = omega (arith, fold_start (min a x) xs)
+fold_le a (x ∷ xs) (suc k) l = fold_le (min a x) xs k (omega arith)
+
+fold_one : (a : ℕ) (xs : List ℕ) → (fold min a xs ≡ a) ⊎ ((k : ℕ) × (k < length xs) × (get_or xs k 0 ≡ fold min a xs))
+fold_one a [] = inl refl
+fold_one a (x ∷ xs) = ⊎_elim (λ e. start e (both (leb a x))) (λ r. inr (suc r.0, omega (arith, r.1), r.2)) (fold_one (min a x) xs)
+  where
+    start : fold min (min a x) xs ≡ min a x → (leb a x ≡ true) ⊎ (leb a x ≡ false)
+        → (fold min (min a x) xs ≡ a) ⊎ ((k : ℕ) × (k < length (x ∷ xs)) × (get_or (x ∷ xs) k 0 ≡ fold min (min a x) xs))
+    start e (inl b) = inl (omega (arith, leb-true a x b))
+    start e (inr b) = inr (0, omega arith, omega (arith, leb-false a x b))
+
+least_le : (xs : List ℕ) (k : ℕ) → k < length xs → (m : ℕ) × (reduce min xs ≡ Some m) × (m ≤ get_or xs k 0)
+least_le [] k l = absurd (omega arith)
+least_le (x ∷ xs) zero l = (fold min x xs, refl, fold_start x xs)
+least_le (x ∷ xs) (suc k) l = (fold min x xs, refl, fold_le x xs k (omega arith))
+
+least_one : (xs : List ℕ) (m : ℕ) → reduce min xs ≡ Some m → (k : ℕ) × (k < length xs) × (get_or xs k 0 ≡ m)
+least_one [] m e = absurd (cc)
+least_one (x ∷ xs) m e =
+    let f : fold min x xs ≡ m = cc in
+    ⊎_elim (λ a. (0, omega arith, sym a ∙ f)) (λ r. (suc r.0, omega (arith, r.1), r.2 ∙ f)) (fold_one x xs)
+
+module _ {A : Type 0} (h : ℕ × A → Option ℕ) (none : ℕ × A) where
+  there : (ys : List (ℕ × A)) (i v : ℕ) → i < length ys → h (get_or ys i none) ≡ Some v
+      → (k : ℕ) × (k < length (filter_map h ys)) × (get_or (filter_map h ys) k 0 ≡ v)
+  there [] i v l e = absurd (omega arith)
+  there (y ∷ ys) zero v l e = rw e (0, omega arith, refl)
+  there (y ∷ ys) (suc i) v l e = further (h y) (there ys i v (omega arith) e)
+    where
+      further : (o : Option ℕ) → (k : ℕ) × (k < length (filter_map h ys)) × (get_or (filter_map h ys) k 0 ≡ v)
+          → (k : ℕ) × (k < length (cons_option o (filter_map h ys))) × (get_or (cons_option o (filter_map h ys)) k 0 ≡ v)
+      further None r = r
+      further (Some u) r = (suc r.0, omega (arith, r.1), r.2)
+
+  there_from : (ys : List (ℕ × A)) (k : ℕ) → k < length (filter_map h ys)
+      → (i : ℕ) × (i < length ys) × (h (get_or ys i none) ≡ Some (get_or (filter_map h ys) k 0))
+  there_from [] k l = absurd (omega arith)
+  there_from (y ∷ ys) k l = go (h y) refl k l (λ j m. there_from ys j m)
+    where
+      go : (o : Option ℕ) → h y ≡ o → (j : ℕ) → j < length (cons_option o (filter_map h ys))
+          → ((j : ℕ) → j < length (filter_map h ys) → (i : ℕ) × (i < length ys) × (h (get_or ys i none) ≡ Some (get_or (filter_map h ys) j 0)))
+          → (i : ℕ) × (i < length (y ∷ ys)) × (h (get_or (y ∷ ys) i none) ≡ Some (get_or (cons_option o (filter_map h ys)) j 0))
+      go None e j m further = let r = further j m in (suc r.0, omega (arith, r.1), r.2)
+      go (Some u) e zero m further = (0, omega arith, e)
+      go (Some u) e (suc j) m further = let r = further j (omega arith) in (suc r.0, omega (arith, r.1), r.2)
+
+-- ---- first faults as numbers: one more than the time, and 0 for none
+
+-- the first fault g is by the step of the fault f
+abbrev by_then : ℕ → ℕ → Bool
+by_then f g = ltb 0 g && leb g f
+
+-- and less than n + 1 slots before it
+abbrev near : ℕ → ℕ → ℕ → Bool
+near n f g = by_then f g && leb (f - g) n
+
+one_more : (g f : ℕ) → leb (g + 1) (f + 1) ≡ leb g f
+one_more g f =
     ⊎_elim
-    (λ m.
-    let r = earliest_le k f i m h in
-    let s = earlier_low (earliest k f) (f k) r.0 in
-    (s.0, omega (arith, s.1, r.1)))
-    (λ e.
-    let g = ap f e in
-    let s = earlier_high (earliest k f) (f k) (omega arith) in
-    (s.0, omega (arith, s.1)))
-    (below_last i k l)
+    (λ e. le-leb (g + 1) (f + 1) (omega (arith, leb-true g f e)) ∙ sym e)
+    (λ e. lt-leb (g + 1) (f + 1) (omega (arith, leb-false g f e)) ∙ sym e)
+    (both (leb g f))
 
--- and is one of them
-earliest_one : (k : ℕ) (f : ℕ → ℕ) → 0 < earliest k f → (i : ℕ) × (i < k) × (f i ≡ earliest k f)
-earliest_one zero f h = absurd (omega arith)
-earliest_one (suc k) f h =
-    ⊎_elim
-    (λ e. let r = earliest_one k f (omega arith) in (r.0, omega (arith, r.1), r.2 ∙ sym e))
-    (λ e. (k, omega arith, sym e))
-    (earlier_one (earliest k f) (f k))
+by_is : (f : ℕ) (g : Option ℕ) → by_step f g ≡ by_then (f + 1) (kept g)
+by_is f None = refl
+by_is f (Some g) = rw (lt-ltb 0 (g + 1) (omega arith), one_more g f) refl
+
+near_is : (n f : ℕ) (g : Option ℕ) → too_close n f g ≡ near n (f + 1) (kept g)
+near_is n f None = refl
+near_is n f (Some g) =
+    let e : f + 1 - (g + 1) ≡ f - g = omega arith in
+    rw (lt-ltb 0 (g + 1) (omega arith), one_more g f, e) refl
 
 -- ---- an `or` that fails
 
@@ -63,9 +152,21 @@ or_fails : (a b : Bool) → (a || b) ≡ false → (a ≡ false) × (b ≡ false
 or_fails true b e = absurd (true≢false e)
 or_fails false b e = (refl, e)
 
-module _ (n : ℕ) (faults : List ℕ) where
+module _ (n : ℕ) (faults : List (Option ℕ)) where
   abbrev fault : ℕ → ℕ
-  fault p = get_or faults p 0
+  fault = first_of faults
+
+  -- seat q keeps its first fault apart from that of p: it is p, or is not too close to it
+  abbrev apart_of : ℕ → ℕ → Bool
+  apart_of p q = eqb q p || not (near n (fault p) (fault q))
+
+  -- how many seats are sound after the step of the fault f
+  abbrev sound_with : ℕ → ℕ
+  sound_with f = count_below n (λ q. not (by_then f (fault q)))
+
+  -- the terms hold up to the step of p's first fault, as far as that fault is concerned
+  unfoldable holds : ℕ → Bool
+  holds p = all_below n (apart_of p) && leb 2 (sound_with (fault p))
 
   -- first faults f of p and g of q, both by the step of f: too close
   record Close (p q : ℕ) : Type 0 where
@@ -80,32 +181,32 @@ module _ (n : ℕ) (faults : List ℕ) where
   close_fails p q t e c =
       rw (ne_eqb p q c.other, lt-ltb 0 (fault p) (omega arith), le-leb (fault p) (t + 1) (omega arith), lt-ltb 0 (fault q) c.some, le-leb (fault q) (t + 1) (omega (arith, c.order)), lt-leb (n + 1) (distance (fault p) (fault q)) (omega (arith, c.near, c.order)))
 
-  apart_close : (p q : ℕ) → keeps_apart n p (fault p) q (fault q) ≡ false → Close p q
+  apart_close : (p q : ℕ) → apart_of p q ≡ false → Close p q
   apart_close p q e =
-      let a = or_fails (eqb q p) (not (too_close n (fault p) (fault q))) e in
-      let b = and-true (by_step (fault p) (fault q)) (leb (fault p - fault q) n) (not-false _ a.1) in
+      let a = or_fails (eqb q p) (not (near n (fault p) (fault q))) e in
+      let b = and-true (by_then (fault p) (fault q)) (leb (fault p - fault q) n) (not-false _ a.1) in
       let c = and-true (ltb 0 (fault q)) (leb (fault q) (fault p)) b.0 in
       record { other = λ i. eqb-false q p a.0 (sym i); some = ltb-true _ _ c.0; order = leb-true _ _ c.1; near = leb-true _ _ b.1 }
 
-  close_apart : (p q : ℕ) → Close p q → keeps_apart n p (fault p) q (fault q) ≡ false
+  close_apart : (p q : ℕ) → Close p q → apart_of p q ≡ false
   close_apart p q c =
       rw (ne_eqb q p (λ i. c.other (sym i)), lt-ltb 0 (fault q) c.some, le-leb (fault q) (fault p) c.order, le-leb (fault p - fault q) n c.near)
 
   -- the seats that are sound after a step, counted either way
-  same_sound : (p t : ℕ) → fault p ≡ suc t → sound_after faults (fault p) n ≡ count_below n (λ q. not (faulty_by faults t q))
-  same_sound p t e = ap (λ (x : ℕ). sound_after faults x n) (e ∙ sym (add-one t))
+  same_sound : (p t : ℕ) → fault p ≡ suc t → sound_with (fault p) ≡ count_below n (λ q. not (faulty_by faults t q))
+  same_sound p t e = ap (λ (x : ℕ). sound_with x) (e ∙ sym (add-one t))
 
-  fails_up_to : (p t : ℕ) → p < n → fault p ≡ suc t → holds_with n faults p ≡ false → terms_hold n faults t ≡ false
-  unfolding holds_with terms_hold
-  fails_up_to p t l e h = ⊎_elim pair count (and_fails (all_below n (λ q. keeps_apart n p (fault p) q (fault q))) (leb 2 (sound_after faults (fault p) n)) h)
+  fails_up_to : (p t : ℕ) → p < n → fault p ≡ suc t → holds p ≡ false → terms_hold n faults t ≡ false
+  unfolding holds terms_hold
+  fails_up_to p t l e h = ⊎_elim pair count (and_fails (all_below n (apart_of p)) (leb 2 (sound_with (fault p))) h)
     where
-      pair : all_below n (λ q. keeps_apart n p (fault p) q (fault q)) ≡ false → terms_hold n faults t ≡ false
+      pair : all_below n (apart_of p) ≡ false → terms_hold n faults t ≡ false
       pair a =
-          let r = all_not (λ q. keeps_apart n p (fault p) q (fault q)) n a in
+          let r = all_not (apart_of p) n a in
           let b = all_fails (apart_by n faults t p) n r.0 r.1 (close_fails p r.0 t e (apart_close p r.0 r.2)) in
           rw (all_fails (λ q. all_below n (apart_by n faults t q)) n p l b)
 
-      count : leb 2 (sound_after faults (fault p) n) ≡ false → terms_hold n faults t ≡ false
+      count : leb 2 (sound_with (fault p)) ≡ false → terms_hold n faults t ≡ false
       count a =
           let b : leb 2 (count_below n (λ q. not (faulty_by faults t q))) ≡ false = ap (leb 2) (sym (same_sound p t e)) ∙ a in
           rw b (and-false (all_below n (λ q. all_below n (apart_by n faults t q))))
@@ -117,7 +218,7 @@ module _ (n : ℕ) (faults : List ℕ) where
     below : seat < n
     some : 0 < fault seat
     by : fault seat ≤ t + 1
-    fails : holds_with n faults seat ≡ false
+    fails : holds seat ≡ false
 
   record Faulty (t p : ℕ) : Type 0 where
     some : 0 < fault p
@@ -127,13 +228,13 @@ module _ (n : ℕ) (faults : List ℕ) where
   is_faulty t p e = let a = and-true (ltb 0 (fault p)) (leb (fault p) (t + 1)) e in record { some = ltb-true _ _ a.0; by = leb-true _ _ a.1 }
 
   with_close : (t p q : ℕ) → p < n → q < n → Faulty t p → Close p q → Fails t
-  unfolding holds_with
+  unfolding holds
   with_close t p q l m f c = record {
     seat = p;
     below = l;
     some = f.some;
     by = f.by;
-    fails = rw (all_fails (λ x. keeps_apart n p (fault p) x (fault x)) n q m (close_apart p q c));
+    fails = rw (all_fails (apart_of p) n q m (close_apart p q c));
   }
 
   with_pair : (t p q : ℕ) → p < n → q < n → apart_by n faults t p q ≡ false → Fails t
@@ -183,7 +284,7 @@ module _ (n : ℕ) (faults : List ℕ) where
   all_sound t (suc k) h = let r = all_sound t k (λ q l. h q (omega arith)) in rw (h k (omega arith)) (omega arith)
 
   with_count : (t : ℕ) → 2 ≤ n → leb 2 (count_below n (λ q. not (faulty_by faults t q))) ≡ false → Fails t
-  unfolding holds_with
+  unfolding holds
   with_count t two e = go (find_latest t n)
     where
       few : count_below n (λ q. not (faulty_by faults t q)) < 2
@@ -192,11 +293,11 @@ module _ (n : ℕ) (faults : List ℕ) where
       go : Latest t n → Fails t
       go (nobody m) = absurd (omega (arith, few, all_sound t n m))
       go (latest p l f m) =
-          let s = sum_mono (λ q. cond (not (by_step (fault p) (fault q))) 1 0) (λ q. cond (not (faulty_by faults t q)) 1 0) n
-          (λ q x. one_or_none (faulty_by faults t q) (by_step (fault p) (fault q))
+          let s = sum_mono (λ q. cond (not (by_then (fault p) (fault q))) 1 0) (λ q. cond (not (faulty_by faults t q)) 1 0) n
+          (λ q x. one_or_none (faulty_by faults t q) (by_then (fault p) (fault q))
           (λ y. and_of (lt-ltb 0 (fault q) (is_faulty t q y).some) (le-leb (fault q) (fault p) (m q x y)))) in
-          let b = lt-leb 2 (sound_after faults (fault p) n) (omega (arith, few)) in
-          record { seat = p; below = l; some = f.some; by = f.by; fails = rw b (and-false (all_below n (λ q. keeps_apart n p (fault p) q (fault q)))) }
+          let b = lt-leb 2 (sound_with (fault p)) (omega (arith, few)) in
+          record { seat = p; below = l; some = f.some; by = f.by; fails = rw b (and-false (all_below n (apart_of p))) }
 
   fails_with : (t : ℕ) → 2 ≤ n → terms_hold n faults t ≡ false → Fails t
   unfolding terms_hold
@@ -210,49 +311,96 @@ module _ (n : ℕ) (faults : List ℕ) where
 
   -- ---- the first of them
 
-  failing_is : (p : ℕ) → 0 < fault p → holds_with n faults p ≡ false → failing_at n faults p ≡ fault p
-  failing_is p l e = rw (ne_eqb (fault p) 0 (omega arith), e)
+  module _ (long : n ≤ length faults) where
+    abbrev xs : List (Option ℕ)
+    xs = take n faults
 
-  failing_some : (p : ℕ) → 0 < failing_at n faults p → (failing_at n faults p ≡ fault p) × (holds_with n faults p ≡ false)
-  failing_some p l = go (both (eqb (fault p) 0)) (both (holds_with n faults p))
-    where
-      go : (eqb (fault p) 0 ≡ true) ⊎ (eqb (fault p) 0 ≡ false) → (holds_with n faults p ≡ true) ⊎ (holds_with n faults p ≡ false)
-          → (failing_at n faults p ≡ fault p) × (holds_with n faults p ≡ false)
-      go (inl e) h = absurd (omega (arith, none e))
-        where
-          none : eqb (fault p) 0 ≡ true → failing_at n faults p ≡ 0
-          none x = rw x
-      go (inr e) (inl h) = absurd (omega (arith, none e h))
-        where
-          none : eqb (fault p) 0 ≡ false → holds_with n faults p ≡ true → failing_at n faults p ≡ 0
-          none x y = rw (x, y)
-      go (inr e) (inr h) = (rw (e, h), h)
+    long_is : length xs ≡ n
+    long_is = omega (arith, length-take n faults)
 
-  module _ (two : 2 ≤ n) (time : ℕ) where
-    abbrev failing : ℕ → Bool
-    failing t = not (terms_hold n faults t)
+    seat_of : (p : ℕ) → p < n → get_or xs p None ≡ get_or faults p None
+    seat_of p l = get_or-take n faults p None l
 
-    -- up to a step before the first found the terms hold
-    holds_before : (t : ℕ) → (0 < first_found n faults → t + 1 < first_found n faults) → failing t ≡ false
-    unfolding first_found
-    holds_before t h = ⊎_elim (λ e. ap not e) (λ e. bad (fails_with t two e)) (both (terms_hold n faults t))
+    module _ (p f : ℕ) (here : get_or faults p None ≡ Some f) where
+      fault_is : fault p ≡ f + 1
+      fault_is = ap kept here
+
+      apart_is : keeps_apart xs p f ≡ all_below n (apart_of p)
+      apart_is =
+          all_listed None (λ x. eqb x.0 p || not (too_close (length xs) f x.1)) xs
+          ∙ ap (λ (k : ℕ). all_below k (λ q. eqb q p || not (too_close k f (get_or xs q None)))) long_is
+          ∙ all_same (λ q. eqb q p || not (too_close n f (get_or xs q None))) (apart_of p) n
+          (λ q l. ap (λ (b : Bool). eqb q p || not b)
+          (ap (too_close n f) (seat_of q l) ∙ near_is n f (get_or faults q None) ∙ ap (λ (x : ℕ). near n x (fault q)) (sym fault_is)))
+
+      sound_is : sound_after xs f ≡ sound_with (fault p)
+      sound_is =
+          count_listed None (λ g. not (by_step f g)) xs
+          ∙ ap (λ (k : ℕ). count_below k (λ q. not (by_step f (get_or xs q None)))) long_is
+          ∙ sum_same (λ q. cond (not (by_step f (get_or xs q None))) 1 0) (λ q. cond (not (by_then (fault p) (fault q))) 1 0) n
+          (λ q l. ap (λ (b : Bool). cond (not b) 1 0)
+          (ap (by_step f) (seat_of q l) ∙ by_is f (get_or faults q None) ∙ ap (λ (x : ℕ). by_then x (fault q)) (sym fault_is)))
+
+      holds_is : holds_with xs p f ≡ holds p
+      unfolding holds
+      holds_is = ap₂ (λ (a : Bool) (k : ℕ). a && leb 2 k) apart_is sound_is
+
+    abbrev failing_in : ℕ × Option ℕ → Option ℕ
+    failing_in x = failing_at xs x.0 x.1
+
+    seat_is : (p : ℕ) → p < n → failing_in (get_or (enumerate_from 0 xs) p (0, None)) ≡ failing_at xs p (get_or faults p None)
+    seat_is p l =
+        ap failing_in (get_or-enumerate_from 0 xs p (0, None) (omega (arith, long_is)) ∙ ap₂ (λ (a : ℕ) (b : Option ℕ). (a, b)) (zero-add p) (seat_of p l))
+
+    -- what fails with a fault is not before the first found
+    found_le : (p : ℕ) → p < n → 0 < fault p → holds p ≡ false → (m : ℕ) × (first_found xs ≡ Some m) × (m + 1 ≤ fault p)
+    found_le p l h e = go (get_or faults p None) refl
       where
-        bad : Fails t → failing t ≡ false
-        bad w =
-            let i = failing_is w.seat w.some w.fails in
-            let r = earliest_le n (failing_at n faults) w.seat w.below (omega (arith, w.some)) in
-            absurd (omega (arith, h r.0, r.1, w.by))
+        go : (o : Option ℕ) → get_or faults p None ≡ o → (m : ℕ) × (first_found xs ≡ Some m) × (m + 1 ≤ fault p)
+        go None i = absurd (omega (arith, ap kept i))
+        go (Some f) i =
+            let s : failing_in (get_or (enumerate_from 0 xs) p (0, None)) ≡ Some f = rw (seat_is p l, i, holds_is p f i, e) refl in
+            let r = there failing_in (0, None) (enumerate_from 0 xs) p f (omega (arith, length-enumerate_from 0 xs, long_is)) s in
+            let m = least_le (filter_map failing_in (enumerate_from 0 xs)) r.0 r.1 in
+            (m.0, m.1, omega (arith, m.2, r.2, ap kept i))
 
-    -- nothing is found by the time exactly where the terms hold up to every step before it
-    pub none_found : (0 < first_found n faults → time < first_found n faults) → first_failing n faults time ≡ time
-    unfolding first_failing
-    none_found late = first_none failing time (λ t l. holds_before t (λ h. let m = late h in omega arith))
+    -- and the first found is one of them
+    found_one : (m : ℕ) → first_found xs ≡ Some m → (p : ℕ) × (p < n) × (fault p ≡ suc m) × (holds p ≡ false)
+    found_one m e =
+        let r = least_one (filter_map failing_in (enumerate_from 0 xs)) m e in
+        let s = there_from failing_in (0, None) (enumerate_from 0 xs) r.0 r.1 in
+        let l : s.0 < n = omega (arith, s.1, length-enumerate_from 0 xs, long_is) in
+        go s.0 l (sym (seat_is s.0 l) ∙ s.2 ∙ ap (λ (x : ℕ). Some x) r.2) (get_or faults s.0 None) refl
+      where
+        told : (p f : ℕ) (here : get_or faults p None ≡ Some f) (b : Bool) → holds p ≡ b → cond (not b) (Some f) None ≡ Some m → p < n
+            → (p : ℕ) × (p < n) × (fault p ≡ suc m) × (holds p ≡ false)
+        told p f here true h i l = absurd (cc)
+        told p f here false h i l = let q : f ≡ m = cc in (p, l, omega (arith, ap kept here, q), h)
 
-    -- what is found by the time is one more than the first step up to which they fail
-    pub one_found : (t : ℕ) → first_found n faults ≡ suc t → t < time → first_failing n faults time ≡ t
-    unfolding first_failing first_found
-    one_found t e l =
-        let r = earliest_one n (failing_at n faults) (omega arith) in
-        let s = failing_some r.0 (omega (arith, r.2)) in
-        let f : fault r.0 ≡ suc t = sym s.0 ∙ r.2 ∙ e in
-        first_is failing time t l (ap not (fails_up_to r.0 t r.1 f s.1)) (λ j m. holds_before j (λ h. omega arith))
+        go : (p : ℕ) → p < n → failing_at xs p (get_or faults p None) ≡ Some m → (o : Option ℕ) → get_or faults p None ≡ o
+            → (p : ℕ) × (p < n) × (fault p ≡ suc m) × (holds p ≡ false)
+        go p l i None h = let z = rw h at i in absurd (cc)
+        go p l i (Some f) h = told p f h (holds p) refl (rw (h, holds_is p f h) at i) l
+
+    module _ (two : 2 ≤ n) (time : ℕ) where
+      abbrev failing : ℕ → Bool
+      failing t = not (terms_hold n faults t)
+
+      -- up to a step before the first found the terms hold
+      holds_before : (t : ℕ) → ((m : ℕ) → first_found xs ≡ Some m → t < m) → failing t ≡ false
+      holds_before t h = ⊎_elim (λ e. ap not e) (λ e. bad (fails_with t two e)) (both (terms_hold n faults t))
+        where
+          bad : Fails t → failing t ≡ false
+          bad w = let r = found_le w.seat w.below w.some w.fails in absurd (omega (arith, h r.0 r.1, r.2, w.by))
+
+      -- nothing is found before the time exactly where the terms hold up to every step before it
+      pub none_found : ((m : ℕ) → first_found xs ≡ Some m → time ≤ m) → first_failing n faults time ≡ time
+      unfolding first_failing
+      none_found late = first_none failing time (λ t l. holds_before t (λ m e. omega (arith, late m e)))
+
+      -- what is found before the time is the first step up to which they fail
+      pub one_found : (m : ℕ) → first_found xs ≡ Some m → m < time → first_failing n faults time ≡ m
+      unfolding first_failing
+      one_found m e l =
+          let r = found_one m e in
+          first_is failing time m l (ap not (fails_up_to r.0 m r.1 r.2 r.3)) (λ j i. holds_before j (λ k h. let q : k ≡ m = cc in omega arith))

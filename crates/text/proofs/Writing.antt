@@ -2,7 +2,8 @@
 use mathlib.Core.Path.{◌≡◌, refl}
 use mathlib.Core.List.{List, [], ◌∷◌, ◌++◌}
 use Prim.Native.Nat.{ℕ}
-use Rattle.text.specs.Lent.{Lent, with_byte, with_text}
+use Rattle.text.specs.Lent.{with_byte, with_text}
+use Rattle.text.specs.declared.Lent.{Lent}
 
 pub text_after : (x : Lent) (a b : List ℕ) → with_text x (a ++ b) ≡ with_text (with_text x a) b
 unfolding with_text

@@ -1,24 +1,19 @@
 -- What writing into a lent buffer comes to, byte by byte.
 use Rattle.std.specs.Prelude.{Bool, false, cond, List, [], ◌∷◌, ℕ, ◌+◌, ltb, length, set}
-use Rattle.text.specs.declared.Place.{Place}
+use Rattle.std.specs.Borrow.{MutBor}
+use Rattle.text.specs.declared.Lent.{Lent}
 
 -- a lent buffer, and the place in it
-pub record Lent : Type 0 where
-  pub place : Place
-  pub page : List ℕ
-
-abbrev pub lent : Place → List ℕ → Lent
-lent place page = record { place = place; page = page }
-
-abbrev pub place_at : ℕ → Bool → Place
-place_at at whole = record { at = at; whole = whole }
+abbrev pub lent : MutBor (List ℕ) → ℕ → Bool → Lent
+lent page at whole = record { page = page; at = at; whole = whole }
 
 -- a byte goes to the place where there is room, and the next one behind it; where there is none no byte is
 -- touched, and not all has found room
 unfoldable pub with_byte : Lent → ℕ → Lent
 with_byte x byte =
-    let at = x.place.at in
-    cond (ltb at (length x.page)) (lent (place_at (at + 1) x.place.whole) (set x.page at byte)) (lent (place_at at false) x.page)
+    cond (ltb x.at (length x.page.now))
+    (record x { page = record x.page { now = set x.page.now x.at byte }; at = x.at + 1 })
+    (record x { whole = false })
 
 -- a text goes there byte by byte
 unfoldable pub with_text : Lent → List ℕ → Lent

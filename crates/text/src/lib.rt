@@ -2,7 +2,7 @@
 // buffer, as far as they fit.
 #![tactic(auto)]
 
-ghost use Rattle.std.specs.Prelude.{◌≡◌};
+ghost use Rattle.std.specs.Prelude.{true, cond, Some, None, ◌≡◌};
 ghost use Rattle.text.specs.Decimal.{decimal};
 ghost use Rattle.text.specs.Lent.{lent, with_byte, with_text};
 
@@ -11,48 +11,64 @@ pub const SPACE: u8 = b' ';
 
 pub const LINE_FEED: u8 = b'\n';
 
-// Where the next byte goes, and whether all bytes up to there found room.
-#[derive(Clone, Copy)]
-pub struct Place {
+// A lent buffer, where the next byte goes in it, and whether all bytes up to there found room.
+#[derive(Drop)]
+pub struct Lent<'a> {
+    pub page: &'a mut [u8],
     pub at: usize,
     pub whole: bool,
 }
 
-#[tactic(auto, unfolding(crate::specs::Lent::with_byte))]
-pub fn put_byte(page: &mut [u8], place: Place, byte: u8) -> Place
-    ensures { lent result page.new ≡ with_byte (lent place page.old) byte }
-{
-    let at = place.at;
-    if at < page.len() {
-        page[at] = byte;
-        return Place {
-            at: at + 1,
-            whole: place.whole,
-        };
+impl<'a> Lent<'a> {
+    // A buffer from its start, nothing written yet.
+    pub fn new(page: &'a mut [u8]) -> Lent<'a>
+        ensures { result ≡ lent page.entry 0 true }
+    {
+        Lent {
+            page,
+            at: 0,
+            whole: true,
+        }
     }
-    Place { at, whole: false }
-}
 
-pub fn put_word(page: &mut [u8], place: Place, word: &[u8]) -> Place
-    ensures { lent result page.new ≡ with_text (lent place page.old) word.now }
-{
-    let mut next = place;
-    let mut i: usize = 0;
-    while i < word.len() {
-        next = put_byte(page, next, word[i]);
-        i += 1;
+    // How many bytes are written, if all of them found room.
+    pub fn written(&self) -> Option<usize>
+        ensures { result ≡ cond self.now.whole (Some self.now.at) None }
+    {
+        self.whole.then_some(self.at)
     }
-    next
-}
 
-// A number's decimal digits: its tens first, and then its last digit.
-#[tactic(auto, using(crate::proofs::NumberRules::number_rules))]
-pub fn put_number(page: &mut [u8], place: Place, n: usize) -> Place
-    ensures { lent result page.new ≡ with_text (lent place page.old) (decimal n) }
-{
-    if n < 10 {
-        return put_byte(page, place, b'0' + (n as u8));
+    #[tactic(auto, unfolding(crate::specs::Lent::with_byte))]
+    pub fn put_byte(&mut self, byte: u8)
+        ensures { self.new ≡ with_byte self.old byte }
+    {
+        if self.at < self.page.len() {
+            self.page[self.at] = byte;
+            self.at += 1;
+        } else {
+            self.whole = false;
+        }
     }
-    let tens = put_number(page, place, n / 10);
-    put_byte(page, tens, b'0' + ((n % 10) as u8))
+
+    pub fn put_word(&mut self, word: &[u8])
+        ensures { self.new ≡ with_text self.old word.now }
+    {
+        for byte in word {
+            self.put_byte(*byte);
+        }
+    }
+
+    // A number's decimal digits: its tens first, and then its last digit. By hand, as this is no plainer by
+    // `write!`: each line would have to hand on an error that never comes.
+    #[tactic(auto, using(crate::proofs::NumberRules::number_rules))]
+    pub fn put_number(&mut self, n: usize)
+        ensures { self.new ≡ with_text self.old (decimal n) }
+    {
+        if n < 10 {
+            self.put_byte(b'0' + (n as u8));
+        } else {
+            self.put_number(n / 10);
+            self.put_byte(b'0' + ((n % 10) as u8));
+        }
+    }
 }

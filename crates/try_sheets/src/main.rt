@@ -6,37 +6,23 @@
 ghost use Rattle.std.specs.Io.{ReadsAtMost};
 ghost use Rattle.std.specs.Prelude.{◌<◌, ◌≡◌, ◌≤◌, length, IfOk, OnErr};
 
-use sheet::ReadAnswer;
+use limits::Refused;
+use sheet::Reading;
 use std::io::{Read, Write};
 use std::rt::Files;
 use std::{fs, io};
 
-fn say(out: &mut impl Write, text: &[u8]) -> io::Result<()> {
-    out.write_all(text)
-}
-
-fn say_number(out: &mut impl Write, n: usize) -> io::Result<()> {
-    write!(out, " {n}")
-}
-
 fn report(out: &mut impl Write, name: &[u8], bytes: &[u8]) -> io::Result<()> {
-    let reading = sheet::read(bytes);
-    let answer = reading.answer;
-    say(out, name)?;
+    let Reading { answer, sheet } = sheet::read(bytes);
+    out.write_all(name)?;
     match answer {
-        ReadAnswer::Read => {
-            say(out, b": read")?;
-            say_number(out, reading.sheet.n)?;
-            say_number(out, reading.sheet.mark_count)?;
-            say_number(out, reading.sheet.slot_count)?;
-        }
-        ReadAnswer::Refused(why, place) => {
-            say(out, b": refused")?;
-            say_number(out, why.number() as usize)?;
-            say_number(out, place)?;
-        }
+        Ok(()) => writeln!(
+            out,
+            ": read {} {} {}",
+            sheet.n, sheet.mark_count, sheet.slot_count
+        ),
+        Err(Refused { why, place }) => writeln!(out, ": refused {} {place}", why.number()),
     }
-    say(out, b"\n")
 }
 
 // The first place from `from` on where this byte stands, or the end.
@@ -44,12 +30,10 @@ fn find(file: &[u8], from: usize, byte: u8) -> usize
     requires { from ≤ length file.now }
     ensures { (from ≤ result) × (result ≤ length file.now) }
 {
-    for at in from..file.len() {
-        if file[at] == byte {
-            return at;
-        }
+    match file[from..].iter().position(|b| *b == byte) {
+        Some(passed) => from + passed,
+        None => file.len(),
     }
-    file.len()
 }
 
 // The sheet whose `=` stands at this place, and the place after it. An error is of what is written alone.
@@ -68,6 +52,7 @@ fn one(out: &mut impl Write, file: &[u8], at: usize) -> io::Result<usize>
     Ok(end)
 }
 
+// Every sheet of the file. No `for`: where the next sheet stands is known when this one is read.
 fn each(out: &mut impl Write, file: &[u8]) -> io::Result<()> {
     let mut at: usize = 0;
     while at < file.len() {
@@ -77,7 +62,8 @@ fn each(out: &mut impl Write, file: &[u8]) -> io::Result<()> {
 }
 
 // Reads until the buffer is full or the input ends: how many bytes then stand at its start. An error leaves the
-// buffer its length, and of what it holds nothing is said.
+// buffer its length, and of what it holds nothing is said. Each program has its own: no library may name `std::io`
+// (`.ci/axioms`).
 fn read_full(input: &mut impl Read, buffer: &mut [u8]) -> io::Result<usize>
     ensures ok { ReadsAtMost result buffer.new }
     ensures err { OnErr result (length buffer.new ≡ length buffer.old) }

@@ -1,11 +1,14 @@
 -- The ways of a seat's turn, and what every turn leaves. Assumes nothing.
-use mathlib.Core.Path.{◌≡◌}
-use mathlib.Core.Bool.{Bool, true, false, ◌&&◌}
+use mathlib.Core.Path.{◌≡◌, refl}
+use mathlib.Core.Bool.{Bool, true, false, cond, ◌&&◌}
 use mathlib.Core.Logic.{⊎_elim}
-use Prim.Native.Nat.{ℕ, ◌≤◌}
+use Prim.Native.Nat.{ℕ, ◌+◌, ◌≤◌}
 use native.Mathlib.Nat.{le_refl}
+use native.Mathlib.Omega.{arith}
 use lib.Dec.{eqb}
 use borrow.Author.Tests.{eqb-true, eqb-false, eq-eqb, ne_eqb}
+use Rattle.std.specs.Prelude.{Option, None, Some}
+use Rattle.lists.specs.Kept.{kept}
 use Rattle.lists.proofs.Tests.{both}
 use Rattle.seats.specs.Sets.{has_seat}
 use Rattle.turn.specs.Table.{decided, gone_by}
@@ -59,8 +62,15 @@ module _ (c : Slot) (p : ℕ) (s : Seat) where
 
 -- ---- what a turn leaves
 
-pub fault_le : (held : Bool) (since fault : ℕ) → fault ≤ since → fault_after held since fault ≤ since
-fault_le held since fault l = ⊎_elim (λ e. rw e (le_refl since)) (λ e. rw e l) (both (held && eqb fault 0))
+-- a first fault as one number
+pub kept_after : (held : Bool) (time : ℕ) (fault : Option ℕ) → kept (fault_after held time fault) ≡ cond (held && eqb (kept fault) 0) (time + 1) (kept fault)
+kept_after false time fault = refl
+kept_after true time None = refl
+kept_after true time (Some t) = rw (ne_eqb (t + 1) 0 (omega arith)) refl
+
+fault_le : (held : Bool) (time : ℕ) (fault : Option ℕ) → kept fault ≤ time + 1 → kept (fault_after held time fault) ≤ time + 1
+fault_le held time fault l =
+    rw kept_after (⊎_elim (λ e. rw e (le_refl (time + 1))) (λ e. rw e l) (both (held && eqb (kept fault) 0)))
 
 -- a set never grows, and a first fault is not after the step
 module _ (c : Slot) (p : ℕ) (s : Seat) where
@@ -72,10 +82,10 @@ module _ (c : Slot) (p : ℕ) (s : Seat) where
       (λ h n g. without_all_le s.set (gone_by p c.owner (decided (view_of c p) s.ack s.doubt).removal))
       (λ h n g. le_refl s.set)
 
-  pub fault_by : s.fault ≤ c.since → (turn_of c p s).seat.fault ≤ c.since
+  pub fault_by : kept s.fault ≤ c.time + 1 → kept (turn_of c p s).seat.fault ≤ c.time + 1
   fault_by l =
-      turn_elim c p s (λ t. t.seat.fault ≤ c.since)
+      turn_elim c p s (λ t. kept t.seat.fault ≤ c.time + 1)
       (λ h. l)
-      (λ h e. fault_le c.send c.since s.fault l)
-      (λ h n g. fault_le (is_missed (view_of c p)) c.since s.fault l)
+      (λ h e. fault_le c.send c.time s.fault l)
+      (λ h n g. fault_le (is_missed (view_of c p)) c.time s.fault l)
       (λ h n g. l)

@@ -1,15 +1,13 @@
 -- The seats that are seen at once to keep all that they have. No rule rests on this file: that such a seat's
 -- turn leaves it as it is, is proved.
-use Rattle.std.specs.Prelude.{Bool, false, not, ◌&&◌, ◌||◌, ℕ, eqb}
+use Rattle.std.specs.Prelude.{Bool, false, not, ◌&&◌, ◌||◌, ℕ, eqb, Option, Some, None}
 use Rattle.seats.specs.Sets.{has_seat}
-use Rattle.turn.specs.declared.Spoken.{Spoken}
-use Rattle.turn.specs.declared.Spoken.TheVariants.{Nothing, Bit}
 use Rattle.turn.specs.declared.Slot.{Slot}
 
 -- true is spoken
-abbrev pub is_true : Spoken → Bool
-is_true Nothing = false
-is_true (Bit bit) = bit
+abbrev pub is_true : Option Bool → Bool
+is_true None = false
+is_true (Some bit) = bit
 
 -- a slot in which every seat that expects the owner hears true
 abbrev pub calm_in : Slot → Bool

@@ -8,9 +8,12 @@ use Rattle.turn.specs.declared.Cause.TheVariants.{A, B, C, D, E}
 use Rattle.turn.specs.declared.Removal.{Removal}
 use Rattle.turn.specs.declared.Removal.TheVariants.{Nobody, Itself, Owner, Both}
 use Rattle.turn.specs.declared.Decision.{Decision}
-use Rattle.turn.specs.declared.table.Row.{Row}
 
 -- the last two columns: who is removed, with the cause, and the new acknowledgement
+pub record Row : Type 0 where
+  pub removed : Removal
+  pub ack : Bool
+
 abbrev pub row : Removal → Bool → Row
 row k a = record { removed = k; ack = a }
 

@@ -1,9 +1,7 @@
 -- One seat in a slot: who speaks, which marks take hold, what the seat sees and decides, and the seat after it.
-use Rattle.std.specs.Prelude.{Bool, true, false, cond, not, ◌&&◌, ℕ, eqb}
+use Rattle.std.specs.Prelude.{Bool, true, false, cond, not, ◌&&◌, ℕ, eqb, Option, Some, None, is_none}
 use Rattle.seats.specs.Sets.{has_seat}
 use Rattle.turn.specs.Table.{decided, gone_by, without_all}
-use Rattle.turn.specs.declared.Spoken.{Spoken}
-use Rattle.turn.specs.declared.Spoken.TheVariants.{Nothing, Bit}
 use Rattle.turn.specs.declared.View.{View}
 use Rattle.turn.specs.declared.View.TheVariants.{Silent, Missed, Heard}
 use Rattle.turn.specs.declared.Removal.TheVariants.{Nobody}
@@ -16,22 +14,22 @@ use Rattle.turn.specs.declared.Turn.{Turn}
 abbrev pub out : ℕ → Seat → Bool
 out p s = not (has_seat s.set p)
 
--- a seat is sound before its first fault, which is kept as its time plus one, and 0 is none
+-- a seat is sound before its first fault
 abbrev pub sound : Seat → Bool
-sound s = eqb s.fault 0
+sound s = is_none s.fault
 
 -- ---- what is spoken, and what a seat sees of it
 
 -- the owner speaks if it is in its own set and has no send mark; it speaks its acknowledgement as it was
 -- before the step
-abbrev pub spoken_by : (owner set : ℕ) (ack send : Bool) → Spoken
-spoken_by owner set ack send = cond (has_seat set owner && not send) (Bit ack) Nothing
+abbrev pub spoken_by : (owner set : ℕ) (ack send : Bool) → Option Bool
+spoken_by owner set ack send = cond (has_seat set owner && not send) (Some ack) None
 
 -- a seat that expects the owner, with a receive mark or without: where the owner speaks, the mark takes hold
-abbrev pub sees : Spoken → Bool → View
-sees Nothing marked = Silent
-sees (Bit bit) true = Missed
-sees (Bit bit) false = Heard bit
+abbrev pub sees : Option Bool → Bool → View
+sees None marked = Silent
+sees (Some bit) true = Missed
+sees (Some bit) false = Heard bit
 
 abbrev pub view_of : Slot → ℕ → View
 view_of c p = sees c.spoken (has_seat c.receive p)
@@ -45,14 +43,14 @@ is_missed (Heard bit) = false
 -- ---- the seat after the slot
 
 -- the first fault is that of the step in which a mark first takes hold
-abbrev pub fault_after : (held : Bool) (since fault : ℕ) → ℕ
-fault_after held since fault = cond (held && eqb fault 0) since fault
+abbrev pub fault_after : (held : Bool) (time : ℕ) (fault : Option ℕ) → Option ℕ
+fault_after held time fault = cond (held && is_none fault) (Some time) fault
 
 -- the owner, in its own set: acknowledgement true, doubt the opposite of the old one, also where its send
 -- mark takes hold
 abbrev pub owner_turn : Slot → Seat → Turn
 owner_turn c s = record {
-  seat = record { set = s.set; ack = true; doubt = not s.ack; fault = fault_after c.send c.since s.fault };
+  seat = record { set = s.set; ack = true; doubt = not s.ack; fault = fault_after c.send c.time s.fault };
   removal = Nobody;
 }
 
@@ -63,7 +61,7 @@ decided_turn c p s d = record {
     set = without_all s.set (gone_by p c.owner d.removal);
     ack = d.ack;
     doubt = false;
-    fault = fault_after (is_missed d.view) c.since s.fault;
+    fault = fault_after (is_missed d.view) c.time s.fault;
   };
   removal = d.removal;
 }

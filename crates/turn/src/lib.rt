@@ -3,17 +3,10 @@
 
 ghost use Rattle.std.specs.Prelude.{◌≡◌};
 ghost use Rattle.turn.specs.Table.{count_of};
-ghost use Rattle.turn.specs.Turn.{spoken_by, is_missed, view_of, fault_after, owner_turn, other_turn, turn_of};
+ghost use Rattle.turn.specs.Turn.{spoken_by, view_of, fault_after, owner_turn, other_turn, turn_of};
 
 pub mod calm; // calm.rt: the seats that are seen at once to keep all that they have
 mod table; // table.rt: the table, and whom a removal takes
-
-// What the owner puts on the bus in its slot.
-#[derive(Clone, Copy)]
-pub enum Spoken {
-    Nothing,
-    Bit(bool),
-}
 
 // What one seat sees of a slot.
 #[derive(Clone, Copy)]
@@ -23,14 +16,15 @@ pub enum View {
     Heard(bool),
 }
 
-// Why a seat is removed: the letters of document 002, and e for its footnote 4.
+// Why a seat is removed: the letters of document 002, and e for its footnote 4. As a number each is its letter
+// in ASCII.
 #[derive(Clone, Copy)]
 pub enum Cause {
-    A,
-    B,
-    C,
-    D,
-    E,
+    A = b'a' as isize,
+    B = b'b' as isize,
+    C = b'c' as isize,
+    D = b'd' as isize,
+    E = b'e' as isize,
 }
 
 // Whom a seat removes from its set, each with its cause: itself before the owner.
@@ -50,24 +44,23 @@ pub struct Decision {
     pub ack: bool,
 }
 
-// What all seats share in a slot: the owner and what it speaks, the marks, and the time plus one, as which a
-// first fault in this slot is kept.
+// What all seats share in a slot: its time, the owner and the bit that it speaks, if any, and the marks.
 #[derive(Clone, Copy)]
 pub struct Slot {
+    pub time: u16,
     pub owner: usize,
-    pub spoken: Spoken,
+    pub spoken: Option<bool>,
     pub send: bool,
     pub receive: u32,
-    pub since: u16,
 }
 
-// One seat of a ring. Its first fault is kept as its time plus one, and 0 is none.
+// One seat of a ring, with the time of its first fault, if it has had one.
 #[derive(Clone, Copy)]
 pub struct Seat {
     pub set: u32,
     pub ack: bool,
     pub doubt: bool,
-    pub fault: u16,
+    pub fault: Option<u16>,
 }
 
 // A seat after the slot, and whom it removed.
@@ -77,67 +70,41 @@ pub struct Turn {
     pub removal: Removal,
 }
 
-// What an owner with this set and acknowledgement speaks: nothing where it is not in its own set or has a
-// send mark.
-pub fn speak(owner: usize, set: u32, ack: bool, send: bool) -> Spoken
+// What an owner with this set and acknowledgement speaks: its acknowledgement, and nothing where it is not in
+// its own set or has a send mark.
+pub fn speak(owner: usize, set: u32, ack: bool, send: bool) -> Option<bool>
     ensures { result ≡ spoken_by owner set ack send }
 {
-    if !seats::has(set, owner) {
-        return Spoken::Nothing;
-    }
-    if send {
-        return Spoken::Nothing;
-    }
-    Spoken::Bit(ack)
+    (seats::has(set, owner) && !send).then_some(ack)
 }
 
 // What a seat that expects the owner sees.
 fn view_of(slot: Slot, p: usize) -> View
     ensures { result ≡ view_of slot p }
 {
-    let spoken = slot.spoken;
-    let Spoken::Bit(bit) = spoken else {
-        return View::Silent;
-    };
-    if seats::has(slot.receive, p) {
-        return View::Missed;
-    }
-    View::Heard(bit)
-}
-
-// Whether the seat's receive mark took hold.
-fn is_missed(view: View) -> bool
-    ensures { result ≡ is_missed view }
-{
-    match view {
-        View::Silent => false,
-        View::Missed => true,
-        View::Heard(_) => false,
+    match slot.spoken {
+        None => View::Silent,
+        Some(_) if seats::has(slot.receive, p) => View::Missed,
+        Some(bit) => View::Heard(bit),
     }
 }
 
 // The first fault: that of the first mark that took hold.
-fn fault_after(held: bool, since: u16, fault: u16) -> u16
-    ensures { result ≡ fault_after held since fault }
+fn fault_after(held: bool, time: u16, fault: Option<u16>) -> Option<u16>
+    ensures { result ≡ fault_after held time fault }
 {
-    if held {
-        if fault == 0 {
-            return since;
-        }
-    }
-    fault
+    fault.or(held.then_some(time))
 }
 
 fn owner_turn(slot: Slot, s: Seat) -> Turn
     ensures { result ≡ owner_turn slot s }
 {
-    let fault = fault_after(slot.send, slot.since, s.fault);
     Turn {
         seat: Seat {
             set: s.set,
             ack: true,
             doubt: !s.ack,
-            fault,
+            fault: fault_after(slot.send, slot.time, s.fault),
         },
         removal: Removal::Nobody,
     }
@@ -146,17 +113,14 @@ fn owner_turn(slot: Slot, s: Seat) -> Turn
 fn other_turn(slot: Slot, p: usize, s: Seat) -> Turn
     ensures { result ≡ other_turn slot p s }
 {
-    let decision = table::decide(view_of(slot, p), s.ack, s.doubt);
-    let view = decision.view;
-    let removal = decision.removal;
-    let set = table::after_removal(s.set, p, slot.owner, removal);
-    let fault = fault_after(is_missed(view), slot.since, s.fault);
+    let Decision { view, removal, ack } = table::decide(view_of(slot, p), s.ack, s.doubt);
+    let is_missed = matches!(view, View::Missed);
     Turn {
         seat: Seat {
-            set,
-            ack: decision.ack,
+            set: table::after_removal(s.set, p, slot.owner, removal),
+            ack,
             doubt: false,
-            fault,
+            fault: fault_after(is_missed, slot.time, s.fault),
         },
         removal,
     }
@@ -168,30 +132,27 @@ pub fn count_of(removal: Removal) -> usize
 {
     match removal {
         Removal::Nobody => 0,
-        Removal::Itself(_) => 1,
-        Removal::Owner(_) => 1,
+        Removal::Itself(_) | Removal::Owner(_) => 1,
         Removal::Both(_, _) => 2,
     }
 }
 
 // Seat p in the slot. One that is out, or does not have the owner in its set, changes nothing.
+#[tactic(auto, unfolding(crate::specs::Turn::turn_of))]
 pub fn turn_of(slot: Slot, p: usize, s: Seat) -> Turn
     ensures { result ≡ turn_of slot p s }
 {
-    if !seats::has(s.set, p) {
-        return Turn {
-            seat: s,
-            removal: Removal::Nobody,
-        };
-    }
-    if p == slot.owner {
-        return owner_turn(slot, s);
-    }
-    if seats::has(s.set, slot.owner) {
-        return other_turn(slot, p, s);
-    }
-    Turn {
+    let still = Turn {
         seat: s,
         removal: Removal::Nobody,
+    };
+    if !seats::has(s.set, p) {
+        still
+    } else if p == slot.owner {
+        owner_turn(slot, s)
+    } else if seats::has(s.set, slot.owner) {
+        other_turn(slot, p, s)
+    } else {
+        still
     }
 }

@@ -1,80 +1,24 @@
 // The table of document 01: what a seat that expects the owner decides, and whom that takes from its set.
 ghost use Rattle.std.specs.Prelude.{◌≡◌};
-ghost use Rattle.turn.specs.Table.{row, table, arrived, bit_of, decided, gone_by, without_all};
+ghost use Rattle.turn.specs.Table.{decided, gone_by, without_all};
 
 use crate::{Cause, Decision, Removal, View};
 
-// The table's last columns: who is removed, with the cause, and the new acknowledgement.
-#[derive(Clone, Copy)]
-pub struct Row {
-    pub removed: Removal,
-    pub ack: bool,
-}
-
-fn gives(removed: Removal, ack: bool) -> Row
-    ensures { result ≡ row removed ack }
-{
-    Row { removed, ack }
-}
-
-// The table, row by row: arrived, bit, own ack and doubt; who is removed, with the cause, and the new ack.
-fn table(arrived: bool, bit: bool, ack: bool, doubt: bool) -> Row
-    ensures { result ≡ table arrived bit ack doubt }
-{
-    if arrived {
-        if bit {
-            if ack {
-                return gives(Removal::Nobody, true);
-            }
-            return gives(Removal::Itself(Cause::B), true);
-        }
-        if ack {
-            if !doubt {
-                return gives(Removal::Owner(Cause::D), false);
-            }
-            return gives(Removal::Itself(Cause::E), false);
-        }
-        return gives(Removal::Nobody, true);
-    }
-    if ack {
-        return gives(Removal::Owner(Cause::C), false);
-    }
-    gives(Removal::Both(Cause::A, Cause::C), false)
-}
-
-// Whether the bit arrived.
-fn has_arrived(view: View) -> bool
-    ensures { result ≡ arrived view }
-{
-    match view {
-        View::Silent => false,
-        View::Missed => false,
-        View::Heard(_) => true,
-    }
-}
-
-// The bit, where it arrived.
-fn bit_of(view: View) -> bool
-    ensures { result ≡ bit_of view }
-{
-    match view {
-        View::Silent => false,
-        View::Missed => false,
-        View::Heard(bit) => bit,
-    }
-}
-
-// What a seat decides from what it sees and its own bits before the step.
+// The table, row by row, for what a seat sees and its own bits before the step: who is removed, with the cause,
+// and the new acknowledgement. A bit that is not heard did not arrive.
 pub fn decide(view: View, ack: bool, doubt: bool) -> Decision
     ensures { result ≡ decided view ack doubt }
 {
-    let row = table(has_arrived(view), bit_of(view), ack, doubt);
-    let removal = row.removed;
-    Decision {
-        view,
-        removal,
-        ack: row.ack,
-    }
+    let (removal, ack) = match (view, ack, doubt) {
+        (View::Heard(true), true, _) => (Removal::Nobody, true),
+        (View::Heard(true), false, _) => (Removal::Itself(Cause::B), true),
+        (View::Heard(false), true, false) => (Removal::Owner(Cause::D), false),
+        (View::Heard(false), true, true) => (Removal::Itself(Cause::E), false),
+        (View::Heard(false), false, _) => (Removal::Nobody, true),
+        (View::Silent | View::Missed, true, _) => (Removal::Owner(Cause::C), false),
+        (View::Silent | View::Missed, false, _) => (Removal::Both(Cause::A, Cause::C), false),
+    };
+    Decision { view, removal, ack }
 }
 
 // The set of p after its removal in the slot of b.

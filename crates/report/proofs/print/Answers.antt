@@ -1,9 +1,7 @@
 -- `print`: the page stands whole, or is cut where the buffer ends. Assumes nothing.
-use Rattle.report.proofs.PageLaws.{prints_whole, prints_cut}
+use Rattle.std.proofs.Common.{rules}
+use Rattle.report.proofs.PageLaws.{prints}
 use Rattle.report.proofs.print.Goals as goal
 
-pub returns-then-end : goal.returns-then-end
-returns-then-end c = prints_whole _ c.whole_page-end.ensures c.if-end.true
-
 pub returns : goal.returns
-returns c = prints_cut _ c.whole_page-end.ensures c.if-end.false
+returns c = prints _ (rw c.new-lent.ensures at c.whole_page.ensures) (search rules) (search rules)

@@ -1,12 +1,7 @@
--- `through`: each turn gathers a mark or takes a step, and what is left of the run comes to what the whole
--- does. Assumes nothing.
-use Rattle.std.proofs.Common.{◌+◌, ◌-◌}
+-- `through`: before each slot what is left of the run comes to what the whole does. Assumes nothing.
 use Rattle.run.specs.Run.{run_sheet}
 use Rattle.run.proofs.Running.{Going}
 use Rattle.run.proofs.through.Given as goal
 
 abbrev pub invariant-loop-at : goal.invariant-loop-at
 invariant-loop-at l = Going l.sheet (run_sheet l.sheet l.initial.trail) l.trail l.ring l.gathered l.at
-
-abbrev pub decreases-loop-at : goal.decreases-loop-at
-decreases-loop-at l = (l.sheet.slot_count - l.at) + (l.sheet.mark_count - l.gathered.next)

@@ -1,32 +1,35 @@
 -- `first_failing`: by what the search finds. Assumes nothing.
-use Rattle.std.proofs.Common.{◌≡◌, ℕ, suc, ◌-◌, ◌≤◌, true, sym, ◌∙◌, arith}
+use Rattle.std.proofs.Common.{◌≡◌, ℕ, ◌<◌, ◌≤◌, Option, List, length, true, Some, cond, sym, ◌∙◌, rules, arith, take}
 use borrow.Author.Tests.{le-leb}
 use Rattle.limits.specs.Limits.{seats_stand}
 use Rattle.lists.proofs.Tests.{and_of}
 use Rattle.terms.specs.Search.{first_found}
+use Rattle.terms.specs.Terms.{first_failing}
 use Rattle.terms.proofs.Found.{none_found, one_found}
 use Rattle.terms.proofs.first_failing.Goals as goal
 
--- n is a number of seats
-stand : (n : ℕ) → 2 ≤ n → n ≤ 32 → seats_stand n ≡ true
-stand n l h = and_of (le-leb 2 n l) (le-leb n 32 h)
+module _ (n : ℕ) (faults : List (Option ℕ)) (time : ℕ) (two : 2 ≤ n) (most : n ≤ 32) (room : length faults ≡ 32) where
+  stand : seats_stand n ≡ true
+  stand = and_of (le-leb 2 n two) (le-leb n 32 most)
 
-pub returns-then-found-eq0 : goal.returns-then-found-eq0
-returns-then-found-eq0 c =
-    let a = c.args in
-    rw (stand a.n (omega arith) (omega arith))
-    (sym (none_found a.n a.faults (omega arith) a.time (λ h. omega (arith, c.first_found-found.ensures))))
+  by_time : (m : ℕ) → first_found (take n faults) ≡ Some m → m < time → m ≡ cond (seats_stand n) (first_failing n faults time) time
+  by_time m e l = rw stand (sym (one_found n faults (omega arith) two time m e l))
 
-pub returns-then-found-time : goal.returns-then-found-time
-returns-then-found-time c =
-    let a = c.args in
-    let k = c.first_found-found.result in
-    let f : first_found a.n a.faults ≡ suc (k - 1) = sym c.first_found-found.ensures ∙ omega arith in
-    rw (stand a.n (omega arith) (omega arith))
-    (sym (one_found a.n a.faults (omega arith) a.time (k - 1) f (omega arith)))
+  later : ((m : ℕ) → first_found (take n faults) ≡ Some m → time ≤ m) → time ≡ cond (seats_stand n) (first_failing n faults time) time
+  later h = rw stand (sym (none_found n faults (omega arith) two time h))
 
-pub returns : goal.returns
-returns c =
+pub returns-in-Some : goal.returns-in-Some
+returns-in-Some c =
     let a = c.args in
-    rw (stand a.n (omega arith) (omega arith))
-    (sym (none_found a.n a.faults (omega arith) a.time (λ h. omega (arith, c.first_found-found.ensures))))
+    by_time a.n a.faults a.time (search rules) (search rules) (omega arith) c.in-Some.found (sym c.first_found.ensures ∙ c.in-Some.is) c.if-found-time.true
+
+pub returns-in_default : goal.returns-in_default
+returns-in_default c =
+    let a = c.args in
+    later a.n a.faults a.time (search rules) (search rules) (omega arith)
+    (λ m e. let q : c.in-Some.found ≡ m = cc (c.first_found.ensures, c.in-Some.is, e) in omega (arith, c.if-found-time.false))
+
+pub returns-in_default-2 : goal.returns-in_default-2
+returns-in_default-2 c =
+    let a = c.args in
+    later a.n a.faults a.time (search rules) (search rules) (omega arith) (λ m e. absurd (cc (c.first_found.ensures, c.in_default.is, e)))

@@ -1,40 +1,34 @@
 -- `module_lines`: each line goes on with a number that is new, or stops with its offence. Assumes nothing.
-use Rattle.std.proofs.Common.{arith}
-use Rattle.limits.specs.Limits.{module_most}
-use Rattle.limits.specs.declared.Refusal.TheVariants.{ModuleTwice}
-use Rattle.sheet_lines.proofs.LineLaws.{line_within}
+use Rattle.std.proofs.Common.{rules, arith, sym}
 use Rattle.sheet.specs.Entries.{module_line}
-use Rattle.sheet.proofs.EntryLaws.{is_new_lem, not_new, goes_on, stops, ends}
-use Rattle.sheet.proofs.SheetLaws.{found_by}
+use Rattle.sheet.specs.Sheets.{no_modules}
+use Rattle.sheet.proofs.EntryLaws.{is_new_lem, not_new, begins, goes_on, stops, ends}
 use Rattle.sheet.proofs.modules.module_lines.Goals as goal
-use Rattle.sheet.proofs.modules.module_lines.Goals.{else-lines-test, then-lines-test+in-Found+then-loop-j-test+then-list-j}
 
-pub returns-in_default : goal.returns-in_default
+pub loop-k-init : goal.loop-k-init
+unfolding no_modules
+loop-k-init c = begins _ _ _ _
+
+pub returns-in_err-value : goal.returns-in_err-value
 unfolding module_line
-returns-in_default c =
-    let g = c.in_default in
-    rw (g.is, stops _ _ _ _ _ _ _ c.lines.invariant c.lines-test.true g.field-0 g.field-1 (rw (← c.line-one.ensures, g.is)))
+returns-in_err-value c =
+    let r = c.in_err-value.field-0.0 in
+    let s = stops _ _ _ _ _ _ _ c.loop-k.invariant c.loop-k-test.true r.why r.place (rw (← c.in_err-value.ensures.read)) in
+    search rules
 
-pub overflow_cast-number : goal.overflow_cast-number
-overflow_cast-number c = omega (arith, line_within 1 module_most _ _ _ _ (found_by c.line-one.ensures c.in-Found.is))
-
-pub lines-preserved : goal.lines-preserved
+pub loop-k-preserved : goal.loop-k-preserved
 unfolding module_line
-lines-preserved c =
-    let o = c.lines in
-    let u = is_new_lem c.in-Found.value o.k o.list (λ i h. c.loop-j.invariant.1 i (omega arith)) in
-    goes_on _ _ _ _ _ _ _ o.invariant c.lines-test.true _ _ (rw (← c.line-one.ensures, c.in-Found.is, u))
-
-pub returns-then-k-count : goal.returns-then-k-count
-unfolding module_line
-returns-then-k-count c =
-    let o = c.lines in
-    elim c.lines-test.branch [
-      | else-lines-test w ↦ absurd (omega arith)
-      | then-lines-test+in-Found+then-loop-j-test+then-list-j w ↦
-          let u = not_new _ _ o.list w.loop-j.j w.loop-j-test.true w.if-list-j.true in
-          rw (stops _ _ _ _ _ _ _ o.invariant w.lines-test.true ModuleTwice o.at (rw (← w.line-one.ensures, w.in-Found.is, u)))
-    ]
+loop-k-preserved c =
+    let o = c.loop-k in
+    let u = is_new_lem c.in_ok-value.value o.k o.list (λ i h. c.loop-j.invariant i (omega arith)) in
+    goes_on _ _ _ _ _ _ _ o.invariant c.loop-k-test.true _ _ (rw (← c.in_ok-value.ensures.read, u))
 
 pub returns : goal.returns
-returns c = rw (ends _ _ _ _ _ _ _ c.lines.invariant c.if-k-count.false)
+returns c = sym (ends _ _ _ _ _ _ _ c.loop-k.invariant c.loop-k-test.false)
+
+pub returns-2 : goal.returns-2
+unfolding module_line
+returns-2 c =
+    let o = c.loop-k in
+    let u = not_new _ _ o.list c.loop-j.j c.loop-j-test.true c.if-list-j.true in
+    rw c.at.ensures (sym (stops _ _ _ _ _ _ _ o.invariant c.loop-k-test.true _ _ (rw (← c.in_ok-value.ensures.read, u))))

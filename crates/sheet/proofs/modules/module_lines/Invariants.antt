@@ -1,19 +1,13 @@
 -- `module_lines`: a line a turn; the search passes numbers that differ, and is left by the label at one that
 -- does not. Assumes nothing.
-use Rattle.std.proofs.Common.{ℕ, ◌-◌, ◌<◌, ◌≤◌, ◌≡◌, get_or}
+use Rattle.std.proofs.Common.{ℕ, ◌<◌, ◌≡◌, get_or}
 use Rattle.sheet.specs.Entries.{module_line}
 use Rattle.sheet.specs.Sheets.{no_modules}
 use Rattle.sheet.proofs.EntryLaws.{Reached}
 use Rattle.sheet.proofs.modules.module_lines.Given as goal
 
 abbrev pub invariant-loop-j : goal.invariant-loop-j
-invariant-loop-j l = (l.j ≤ l.k) × ((i : ℕ) → i < l.j → get_or l.list i 0 ≡ l.number → ⊥)
+invariant-loop-j l = (i : ℕ) → i < l.j → get_or l.list i 0 ≡ l.number → ⊥
 
-abbrev pub decreases-loop-j : goal.decreases-loop-j
-decreases-loop-j l = l.k - l.j
-
-abbrev pub invariant-lines : goal.invariant-lines
-invariant-lines l = Reached (module_line l.s) l.count l.start no_modules l.at l.k l.list
-
-abbrev pub decreases-lines : goal.decreases-lines
-decreases-lines l = l.count - l.k
+abbrev pub invariant-loop-k : goal.invariant-loop-k
+invariant-loop-k l = Reached (module_line l.s) l.count l.start no_modules l.at l.k l.list
