@@ -1,4 +1,4 @@
--- What `print` and `no_page` promise: the bytes written, the number given back, and that no page is long.
+-- What `print` and `no_page` promise: the bytes written, the length given back, and that no page is long.
 use Rattle.std.specs.Prelude.{cond, List, Option, Some, None, ◌≡◌, ℕ, ◌+◌, ◌*◌, ◌≤◌, leb, length, take, replicate}
 use Rattle.lists.specs.Put.{put}
 use Rattle.limits.specs.Limits.{room_most}

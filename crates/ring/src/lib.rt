@@ -15,7 +15,8 @@ mod check; // check.rt: what is a ring, and which receive marks stand
 mod draw; // draw.rt: the step's two passes over the seats
 mod start; // start.rt: the zero ring and a fresh one
 
-// The whole ring is one value, as document 01 wants it: fixed arrays, passed and given back. Each seat has the time of its first fault, if it has had one.
+// The whole ring is one value, as document 01 wants it: fixed arrays, passed and given back. Each seat has the
+// time of its first fault, if it has had one.
 #[derive(Clone, Copy)]
 pub struct Ring {
     pub sets: [u32; limits::SEATS_MOST],
@@ -27,21 +28,23 @@ pub struct Ring {
     pub records: u16,
 }
 
-// How a fresh ring or a step was answered, and the ring after it.
+// How a fresh ring or a step was answered, and the ring after it: document 01 wants it handed back when it is
+// refused too.
 #[derive(Clone, Copy)]
 pub struct Stepped {
     pub answer: Result<(), Refused>,
     pub ring: Ring,
 }
 
-// The fault terms hold up to the last step taken, or fail first up to the step named. No Option: beside that of
-// the bus it would be one of two alike, and its nothing would have to be read as the page's word.
+// The fault terms hold up to the last step taken, or fail first up to the step named. No Option: the page has a
+// word for each, and None would have to be read as one of them.
 #[derive(Clone, Copy)]
 pub enum Verdict {
     Within,
     Outside(u16),
 }
 
+// The verdict, and the ring handed back, as by a step; two structs, since one for any answer has no name for it.
 #[derive(Clone, Copy)]
 pub struct Judged {
     pub verdict: Result<Verdict, Refused>,

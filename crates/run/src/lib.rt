@@ -16,8 +16,8 @@ use sheet::Sheet;
 
 mod marks; // marks.rt: which marks a slot has
 
-// What the owners spoke, compared with what the bus recorder heard. No Option, as for `Verdict`: each has the
-// page's words.
+// What the owners spoke, compared with what the bus recorder heard. No Option, as for `Verdict`: the page has a
+// word for each.
 #[derive(Clone, Copy)]
 pub enum Bus {
     Agrees,
@@ -32,7 +32,7 @@ pub struct Shown {
 }
 
 // What the run shows, or why it is refused; the ring after the last step taken, and the module number of each
-// seat.
+// seat: a run that is refused has them too, as document 01 says, and past the last seat the number is zero.
 #[derive(Clone, Copy)]
 pub struct Ran {
     pub answer: Result<Shown, Refused>,
@@ -40,7 +40,8 @@ pub struct Ran {
     pub modules: [u16; limits::SEATS_MOST],
 }
 
-// What the bus recorder should hear of an owner with this set and acknowledgement.
+// What the bus recorder should hear of an owner with this set and acknowledgement: the byte that a sheet has for
+// it.
 fn spoken(owner: usize, set: u32, ack: bool, send: bool) -> u8
     ensures { result ≡ heard_as (spoken_by owner set ack send) }
 {
@@ -51,7 +52,7 @@ fn spoken(owner: usize, set: u32, ack: bool, send: bool) -> u8
     }
 }
 
-// A run that ends with this ring: what the bus showed, and the verdict.
+// A run that ends with this ring: what the bus showed, and the verdict. Ring and modules are two fields of it.
 fn judged(bus: Bus, ring: Ring, modules: [u16; limits::SEATS_MOST]) -> Ran
     ensures { Ended (ran (heard bus) (verdict_found ring)) ring modules result }
 {

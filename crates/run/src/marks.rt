@@ -10,7 +10,7 @@ use sheet::{Mark, Sheet};
 
 // What the marks gathered so far come to: how many they are, the seats with a mark in this slot, and those
 // that are dark.
-#[derive(Clone, Copy)]
+#[derive(Clone, Copy, Default)]
 pub struct Gathered {
     pub next: usize,
     pub send: u32,
@@ -37,12 +37,7 @@ impl Gathered {
     pub fn none() -> Gathered
         ensures { result ≡ none_gathered }
     {
-        Gathered {
-            next: 0,
-            send: 0,
-            receive: 0,
-            dark: 0,
-        }
+        Gathered::default()
     }
 
     // One mark more of this slot.

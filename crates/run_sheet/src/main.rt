@@ -32,6 +32,8 @@ fn main(rt: HostRuntime) -> io::Result<()> {
     let mut sheet = [0u8; SHEET_READ];
     let got = read_full(&mut rt.stdin(), &mut sheet)?;
     let mut page = report::no_page();
-    let length = sheet_page::page(&sheet[..got], &mut page).unwrap_or(0);
-    rt.stdout().write_all(&page[..length])
+    match sheet_page::page(&sheet[..got], &mut page) {
+        Some(length) => rt.stdout().write_all(&page[..length]),
+        None => Ok(()),
+    }
 }

@@ -24,7 +24,7 @@ pub struct Mark {
 }
 
 // A sheet: the module number of each seat, the marks, and what was heard in each slot. There is no heap, so a
-// list is an array with its count beside it, and entries past each count are zero.
+// list is an array with its count beside it, and entries past each count are zero: so what was heard is a byte too.
 #[derive(Clone, Copy)]
 pub struct Sheet {
     pub n: usize,

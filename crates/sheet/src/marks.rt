@@ -33,7 +33,8 @@ fn is_allowed(n: usize, m: Mark) -> bool
     }
 }
 
-// The mark of these values after the earlier ones, or its first offence: 3, then 5, then 6.
+// The mark of these values after the earlier ones, or its first offence: 3, then 5, then 6. The kind is a byte, as
+// in a mark; that n is a number of seats was found when its line was read.
 #[tactic(auto, unfolding(crate::specs::Marks::mark_offence))]
 fn checked(n: usize, earlier: &[Mark], time: usize, seat: usize, kind: u8) -> Result<Mark, Refusal>
     requires { (0 < n) × (n ≤ seats_most) }

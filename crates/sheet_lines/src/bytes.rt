@@ -35,7 +35,7 @@ fn classify(b: u8) -> Class
     }
 }
 
-// Which byte may stand where, by its class.
+// Which byte may stand where, by its class: one expression each, which a parameter for the class would only wrap.
 #[tactic(auto, using(crate::proofs::ByteLaws::digits))]
 pub fn is_digit(b: u8) -> bool
     ensures { result ≡ is_digit b }

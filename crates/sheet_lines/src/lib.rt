@@ -27,7 +27,7 @@ pub const HEARD_ZERO: u8 = b'0';
 pub const HEARD_SILENCE: u8 = b'-';
 
 // What was found, and the place after it; or what is refused. Bytes and place go beside each other: a cursor
-// with both would have to promise in every clause that its bytes are still the same.
+// would have its next place in itself where something is found, and none where not.
 pub type Piece<T> = Result<(T, usize), Refused>;
 
 // The end of a line: how many bytes it took, and the place after it. No one else knows what ends a line.
@@ -76,14 +76,14 @@ fn lone<F: Fn(u8) -> bool>(s: &[u8], at: usize, can: F) -> Piece<u8>
     Ok((b, next))
 }
 
-// The kind of a mark, alone on what is left of its line.
+// The kind of a mark, alone on what is left of its line: its byte, as a mark keeps it.
 pub fn kind(s: &[u8], at: usize) -> Piece<u8>
     ensures { found_of result ≡ lone_at is_kind s.now at }
 {
     lone(s, at, bytes::is_kind)
 }
 
-// What the bus recorder heard, alone on its line.
+// What the bus recorder heard, alone on its line: its byte, as a sheet keeps it.
 pub fn heard(s: &[u8], at: usize) -> Piece<u8>
     ensures { found_of result ≡ lone_at is_heard s.now at }
 {

@@ -11,7 +11,8 @@ pub const SPACE: u8 = b' ';
 
 pub const LINE_FEED: u8 = b'\n';
 
-// A lent buffer, where the next byte goes in it, and whether all bytes up to there found room.
+// A lent buffer, where the next byte goes in it, and whether all bytes up to there found room: after a cut the
+// place is still told, so it is no Option.
 #[derive(Drop)]
 pub struct Lent<'a> {
     pub page: &'a mut [u8],
@@ -58,8 +59,8 @@ impl<'a> Lent<'a> {
         }
     }
 
-    // A number's decimal digits: its tens first, and then its last digit. By hand, as this is no plainer by
-    // `write!`: each line would have to hand on an error that never comes.
+    // A number's decimal digits: its tens first, and then its last digit. By hand: no library may use
+    // `write!` (`.ci/axioms`), and each line would have to hand on an error that never comes.
     #[tactic(auto, using(crate::proofs::NumberRules::number_rules))]
     pub fn put_number(&mut self, n: usize)
         ensures { self.new ≡ with_text self.old (decimal n) }

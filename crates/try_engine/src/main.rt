@@ -16,6 +16,7 @@ fn say_trail(out: &mut impl Write, trail: &[u8]) -> io::Result<()> {
     writeln!(out)
 }
 
+// Here and in `try_sheets`: a `Display` of what is refused would have a library name `std` (`.ci/axioms`).
 fn say_refused(out: &mut impl Write, name: &str, refused: Refused) -> io::Result<()> {
     let number = refused.why.number();
     let place = refused.place;

@@ -29,8 +29,10 @@ fn read_full(input: &mut impl Read, buffer: &mut [u8]) -> io::Result<usize>
 // The page of a sheet's bytes.
 fn show_page(out: &mut impl Write, bytes: &[u8]) -> io::Result<()> {
     let mut page = report::no_page();
-    let length = sheet_page::page(bytes, &mut page).unwrap_or(0);
-    out.write_all(&page[..length])
+    match sheet_page::page(bytes, &mut page) {
+        Some(length) => out.write_all(&page[..length]),
+        None => Ok(()),
+    }
 }
 
 // The sheet in a file of this name, below its name.

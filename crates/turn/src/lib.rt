@@ -71,7 +71,7 @@ pub struct Turn {
 }
 
 // What an owner with this set and acknowledgement speaks: its acknowledgement, and nothing where it is not in
-// its own set or has a send mark.
+// its own set or has a send mark. No whole seat is asked for: doubt and first fault play no part.
 pub fn speak(owner: usize, set: u32, ack: bool, send: bool) -> Option<bool>
     ensures { result ≡ spoken_by owner set ack send }
 {

@@ -1,5 +1,5 @@
--- `through`: each turn gathers a mark or takes a step, and what is left of the run comes to what the whole
--- does. Assumes nothing.
+-- `through`: each turn gathers a slot's marks and takes its step, and what is left of the run comes to what the
+-- whole does. Assumes nothing.
 use Rattle.std.proofs.Common.{◌≡◌, refl, List, ℕ, ◌<◌, sym, ap, ◌∙◌, subst, arith}
 use Rattle.turn.specs.Turn.{spoken_by}
 use Rattle.ring.specs.Ring.{seat_of}
