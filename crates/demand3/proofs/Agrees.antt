@@ -9,7 +9,7 @@ use borrow.Author.Tests.{eqb-true, eq-eqb, ne_eqb, ltb-true, ltb-false}
 use Rattle.lists.proofs.Tests.{both, and-true, and_of, same?}
 use Rattle.demand3.proofs.Slots.{OwnSlot, own_slot}
 use Rattle.demand3.proofs.Model.{State, Sound, Faulty, Terms, Agrees}
-use Rattle.demand3.proofs.Seat.{Kind, sound, faulty, kind}
+use Rattle.demand3.proofs.Seat.{Kind, sound, faulty, kind, one_first}
 use Rattle.demand3.proofs.Invariant.{Alone, Latest, gone, alone, active, Pending, Top}
 use Rattle.demand3.proofs.Kept.{Kept}
 
@@ -46,7 +46,7 @@ module _ (s : State) (w : Kept s) (terms : Terms s) where
     where
       go : Top s last → OwnSlot n x f → ⊥
       go z k =
-          let ne : x ≡ z.x → ⊥ = λ i. omega (arith, fx.since, z.late.since, ap s.fault i, z.is) in
+          let ne : x ≡ z.x → ⊥ = λ i. omega (arith, one_first fx z.late i, z.is) in
           let far = terms.apart fx z.late ne (omega (arith, z.is)) in
           ahead k.at k.low (omega (arith, k.high, inv.since, z.is)) k.owner
 

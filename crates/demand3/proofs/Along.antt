@@ -3,7 +3,6 @@
 use mathlib.Core.List.{List}
 use mathlib.Core.Path.{◌≡◌, sym, ap, ◌∙◌, subst}
 use Prim.Native.Nat.{ℕ, ◌≤◌, ◌<◌}
-use Rattle.lists.specs.Kept.{kept}
 use Rattle.limits.specs.Limits.{seats_least, seats_most}
 use Rattle.seats.specs.Sets.{has_seat}
 use Rattle.seats.proofs.Sets.{full_has}
@@ -32,7 +31,7 @@ module _ (n : ℕ) (low : seats_least ≤ n) (high : n ≤ seats_most) where
     full = λ {p} {q} hp hq. ap (λ (s : Seat). has_seat s.set q) (seat_is p hp) ∙ full_has n q high (rw (fresh_n n) at hq);
     says = λ {p} h. ap (λ (s : Seat). s.ack) (seat_is p h);
     sure = λ {p} h. ap (λ (s : Seat). s.doubt) (seat_is p h);
-    clean = λ {p} h. ap (λ (s : Seat). kept s.fault) (seat_is p h);
+    clean = λ {p} h. ap (λ (s : Seat). s.fault) (seat_is p h);
   }
 
 -- ---- a run

@@ -8,7 +8,7 @@ use lib.Dec.{eqb}
 use borrow.Author.Tests.{eq-eqb}
 use Rattle.lists.proofs.Tests.{both, same?}
 use Rattle.demand3.proofs.Model.{hold, Sound, Faulty}
-use Rattle.demand3.proofs.Seat.{role_blind, Still, still, differ, back_sound}
+use Rattle.demand3.proofs.Seat.{role_blind, Still, still, differ, one_first, back_sound}
 use Rattle.demand3.proofs.Invariant.{Holds, Active, Latest, gone, alone, active, Pending, Low, NoneSound, Inv, soon}
 use Rattle.demand3.proofs.Moves.{Move, o, later, slot_seat, back_faulty, keeps_sound, out_step, alone_step, alone_ack, passed_step}
 use Rattle.demand3.proofs.Moves.{carry, pending_step, after_quiet}
@@ -41,7 +41,7 @@ module _ (m : Move) where
     -- the owner is not the seat that they still hold
     calm_owner : {x f : ℕ} → Faulty now x f → last ≡ suc f → x ≡ o m → due ≡ false
     calm_owner {x} {f} y e i =
-        let same : suc g ≡ last = sym fo.since ∙ ap now.fault (sym i) ∙ y.since ∙ sym e in
+        let same : suc g ≡ last = ap suc (one_first fo y (sym i)) ∙ sym e in
         ⊎_elim (λ k. absurd (false≢true (cc (eb, k, eq-eqb (suc g) last same)))) (λ k. k) (both due)
 
     pending : due ≡ true → Pending (later m) last bit

@@ -1,11 +1,13 @@
 -- The invariant holds of a fresh state, and every step within the fault terms keeps it. Assumes nothing.
 use mathlib.Core.Bool.{Bool, true, false, not, ◌&&◌, false≢true, true≢false}
 use mathlib.Core.Logic.{◌⊎◌, inl, inr, ⊎_elim}
-use mathlib.Core.Path.{◌≡◌, sym}
+use mathlib.Core.Path.{◌≡◌, sym, ap}
 use Prim.Native.Nat.{ℕ, suc, ◌<◌}
 use native.Mathlib.Omega.{arith}
 use lib.Dec.{eqb}
-use borrow.Author.Tests.{eqb-true, eqb-false, eq-eqb, ne_eqb, not-true}
+use borrow.Author.Tests.{eqb-true, eqb-false, ne_eqb, not-true}
+use Rattle.std.specs.Prelude.{is_none}
+use Rattle.lists.proofs.Kept.{none_is}
 use Rattle.lists.proofs.Tests.{both, and-true}
 use Rattle.lists.proofs.Found.{found}
 use Rattle.demand3.proofs.Model.{State, Marked, owner, step, Fresh, Sound, Faulty, Terms}
@@ -28,7 +30,7 @@ pub fresh_kept : (s : State) → Fresh s → Kept s
 fresh_kept s new = record { last = 0; bit = true; due = false; inv = inv }
   where
     none : {x f : ℕ} → Faulty s x f → ⊥
-    none y = omega (arith, y.since, new.clean y.seat)
+    none y = cc (y.since, new.clean y.seat)
 
     inv : Inv s 0 true false
     inv = record {
@@ -59,7 +61,7 @@ module _ (t : Marked) where
   open t use {now, receive}
 
   abbrev marked : ℕ → Bool
-  marked p = receive p && eqb (now.fault p) 0 && not (eqb p (owner t))
+  marked p = receive p && is_none (now.fault p) && not (eqb p (owner t))
 
   misses : Misses t
   misses = go (found marked now.n)
@@ -68,11 +70,11 @@ module _ (t : Marked) where
       go (inl (p, h, e)) =
           let k = and-true _ _ e in
           let j = and-true _ _ k.0 in
-          one p (record { seat = h; clean = eqb-true _ _ j.1 }) (eqb-false p (owner t) (not-true _ k.1)) j.0
+          one p (record { seat = h; clean = none_is _ j.1 }) (eqb-false p (owner t) (not-true _ k.1)) j.0
       go (inr free) = none (λ p sp ne.
           let k : marked p ≡ false = free p sp.seat in
           ⊎_elim
-          (λ y. absurd (true≢false (cc (k, y, eq-eqb (now.fault p) 0 sp.clean, ne_eqb p (owner t) ne))))
+          (λ y. absurd (true≢false (cc (k, y, ap is_none sp.clean, ne_eqb p (owner t) ne))))
           (λ y. y)
           (both (receive p)))
 

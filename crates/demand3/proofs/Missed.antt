@@ -9,7 +9,7 @@ use lib.Dec.{eqb}
 use borrow.Author.Tests.{eq-eqb, ne_eqb}
 use Rattle.lists.proofs.Tests.{both, same?}
 use Rattle.demand3.proofs.Model.{acts, role, hold, Sound, Faulty}
-use Rattle.demand3.proofs.Seat.{role_act, act_other, act_owner, differ, back_sound, DropsOwner, deaf_drops}
+use Rattle.demand3.proofs.Seat.{role_act, act_other, act_owner, differ, one_first, back_sound, DropsOwner, deaf_drops}
 use Rattle.demand3.proofs.Invariant.{Holds, Active, active, Pending, Inv}
 use Rattle.demand3.proofs.Moves.{Move, o, later, sees, Hears, hears, role_sound}
 use Rattle.demand3.proofs.Moves.{starts, calm, up, unmarked, still_sound, was_faulty, first_kin, after_first}
@@ -18,7 +18,7 @@ module _ (m : Move) where
   open m use {given, inv}
   open given use {now, send, receive}
   open now use {n, time, set}
-  open later m use {set as set', fault as fault'}
+  open later m use {set as set'}
 
   module _ (so : Sound now (o m)) (es : send ≡ false) (c : ℕ) (sc : Sound now c) (nc : c ≡ o m → ⊥) (mc : receive c ≡ true) where
     rc : role given c ≡ acts
@@ -52,7 +52,7 @@ module _ (m : Move) where
         -- c itself stays in the set
         other : {x f : ℕ} → Faulty (later m) x f → x ≡ c → set' p x ≡ eqb (suc f) (suc time)
         other {x} {f} y i =
-            h.same x ∙ ap (set p) i ∙ sees m was sc ∙ sym (eq-eqb (suc f) (suc time) (sym y.since ∙ ap fault' i ∙ new.since))
+            h.same x ∙ ap (set p) i ∙ sees m was sc ∙ sym (eq-eqb (suc f) (suc time) (ap suc (one_first y new i)))
 
         older : {x f : ℕ} → Faulty (later m) x f → (x ≡ c → ⊥) → set' p x ≡ eqb (suc f) (suc time)
         older {x} {f} y i =

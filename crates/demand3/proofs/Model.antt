@@ -1,27 +1,25 @@
 -- Serves the proofs alone: nothing that a reader must believe rests on this file. The ring over functions of
 -- the seats, with the engine's own table: the model in which agreement is argued. View shows that its step is the
 -- engine's.
-use mathlib.Core.Bool.{Bool, true, false, cond, not, ◌&&◌}
+use mathlib.Core.Bool.{Bool, true, false, not, ◌&&◌}
 use mathlib.Core.Logic.{◌⊎◌}
 use mathlib.Core.Path.{◌≡◌}
 use Prim.Native.Nat.{ℕ, suc, ◌+◌, ◌%◌, ◌≤◌, ◌<◌}
 use lib.Dec.{eqb}
+use Rattle.std.specs.Prelude.{Option, None, Some}
 use Rattle.limits.specs.Limits.{seats_least}
 use Rattle.turn.specs.Table.{Row, table}
+use Rattle.turn.specs.Turn.{fault_after}
 use Rattle.turn.proofs.GoneLaws.{takes_itself, takes_owner}
 
--- `set p q`: q is in p's set. `fault p`: 0, or one more than the time of p's first fault
+-- `set p q`: q is in p's set. `fault p`: the time of p's first fault, if it has had one
 pub record State : Type 0 where
   pub n : ℕ
   pub time : ℕ
   pub set : ℕ → ℕ → Bool
   pub ack : ℕ → Bool
   pub doubt : ℕ → Bool
-  pub fault : ℕ → ℕ
-
--- a first fault after a step, as that number
-abbrev pub first_after : Bool → ℕ → ℕ → ℕ
-first_after held since fault = cond (held && eqb fault 0) since fault
+  pub fault : ℕ → Option ℕ
 
 -- every seat in every set, every acknowledgement true, every doubt false, no faults
 pub record Fresh (s : State) : Type 0 where
@@ -29,7 +27,7 @@ pub record Fresh (s : State) : Type 0 where
   pub full : {p q : ℕ} → p < s.n → q < s.n → s.set p q ≡ true
   pub says : {p : ℕ} → p < s.n → s.ack p ≡ true
   pub sure : {p : ℕ} → p < s.n → s.doubt p ≡ false
-  pub clean : {p : ℕ} → p < s.n → s.fault p ≡ 0
+  pub clean : {p : ℕ} → p < s.n → s.fault p ≡ None
 
 -- ---- one step
 
@@ -103,7 +101,7 @@ module _ (t : Marked) where
     set = λ p q. by_role (role p) (set p q) (left p q) (set p q);
     ack = λ p. by_role (role p) true (learns p) (ack p);
     doubt = λ p. by_role (role p) (not (ack p)) false (doubt p);
-    fault = λ p. first_after (hold p) (suc time) (fault p);
+    fault = λ p. fault_after (hold p) time (fault p);
   }
 
 -- ---- the fault terms, and what is to hold
@@ -113,12 +111,12 @@ module _ (s : State) where
 
   pub record Sound (p : ℕ) : Type 0 where
     pub seat : p < n
-    pub clean : fault p ≡ 0
+    pub clean : fault p ≡ None
 
   -- x had its first fault at time f
   pub record Faulty (x f : ℕ) : Type 0 where
     pub seat : x < n
-    pub since : fault x ≡ suc f
+    pub since : fault x ≡ Some f
 
   -- first faults are at least n + 1 slots apart. (Document 01 asks for two sound seats too; agreement does
   -- not need them)

@@ -12,7 +12,7 @@ use lib.Dec.{ltb}
 use borrow.Author.Tests.{ltb-true, ltb-false}
 use Rattle.lists.proofs.Tests.{both, same?}
 use Rattle.demand3.proofs.Model.{State, Marked, owns, acts, owner, role, hold, step, Sound, Faulty, Terms}
-use Rattle.demand3.proofs.Seat.{Kind, sound, faulty, kind, differ, stays_faulty, unheld, held}
+use Rattle.demand3.proofs.Seat.{Kind, sound, faulty, kind, differ, one_first, stays_faulty, unheld, held}
 use Rattle.demand3.proofs.Seat.{role_own, role_act, role_out, role_blind, still, own_set, act_nobody, agree_row}
 use Rattle.demand3.proofs.Invariant.{Holds, Alone, Ahead, Active, Latest, gone, alone, active, Pending, Low, NoneSound, Top, Passed, Inv, soon, settle}
 
@@ -180,7 +180,7 @@ module _ (m : Move) where
 
     -- c's first fault is now, and any other's was before
     first_now : {x f : ℕ} → Faulty later x f → x ≡ c → f ≡ time
-    first_now y e = omega (arith, y.since, ap later.fault e, starts.since)
+    first_now y e = one_first y starts e
 
     first_then : {x f : ℕ} → Faulty later x f → (x ≡ c → ⊥) → f < time
     first_then y ne = omega (arith, inv.most (was_faulty y ne), inv.since)

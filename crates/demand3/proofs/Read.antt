@@ -3,12 +3,11 @@ use mathlib.Core.Bool.{true, false, not}
 use mathlib.Core.Logic.{◌⊎◌, inl, inr}
 use mathlib.Core.Path.{◌≡◌, sym, ap, ◌∙◌}
 use Prim.Native.Nat.{ℕ, ◌^◌, ◌<◌}
-use native.Mathlib.Numerals.{add-one}
 use native.Mathlib.Omega.{arith}
 use lib.Dec.{eqb}
 use lib.Pow.{pow-lt}
-use Rattle.lists.specs.Kept.{kept}
-use Rattle.lists.proofs.Kept.{kept_none, none_kept, some_kept}
+use Rattle.std.specs.Prelude.{is_none}
+use Rattle.lists.proofs.Kept.{none_is}
 use Rattle.seats.specs.Sets.{has_seat}
 use Rattle.seats.proofs.Sets.{same_sets, has_one}
 use Rattle.turn.specs.Turn.{out}
@@ -24,16 +23,16 @@ use Rattle.demand3.proofs.View.{state_of}
 
 module _ (r : Ring) where
   pub to_sound : {p : ℕ} → SoundSeat r p → Sound (state_of r) p
-  to_sound s = record { seat = s.seat; clean = kept_none _ s.never }
+  to_sound s = record { seat = s.seat; clean = none_is _ s.never }
 
   pub from_sound : {p : ℕ} → Sound (state_of r) p → SoundSeat r p
-  from_sound {p} s = record { seat = s.seat; never = none_kept _ s.clean }
+  from_sound s = record { seat = s.seat; never = ap is_none s.clean }
 
   pub to_faulty : {x t : ℕ} → FirstFault r x t → Faulty (state_of r) x t
-  to_faulty {x} {t} y = record { seat = y.seat; since = ap kept y.since ∙ add-one t }
+  to_faulty {x} {t} y = record { seat = y.seat; since = y.since }
 
   pub from_faulty : {x t : ℕ} → Faulty (state_of r) x t → FirstFault r x t
-  from_faulty {x} {t} y = record { seat = y.seat; since = some_kept _ t (y.since ∙ sym (add-one t)) }
+  from_faulty {x} {t} y = record { seat = y.seat; since = y.since }
 
   -- ---- agreement, read off the state
 

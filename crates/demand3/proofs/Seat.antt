@@ -1,17 +1,21 @@
 -- What one step of the model does to one seat, and the rows of the table that the argument uses. Assumes nothing.
-use mathlib.Core.Bool.{Bool, true, false, not, ◌&&◌}
+use mathlib.Core.Bool.{Bool, true, false, true≢false, not, ◌&&◌}
 use mathlib.Core.Logic.{◌⊎◌, inl, inr, ⊎_elim}
-use mathlib.Core.Path.{◌≡◌, refl, ap}
-use Prim.Native.Nat.{ℕ, zero, suc, ◌<◌}
+use mathlib.Core.Path.{◌≡◌, refl, sym, ap, ◌∙◌}
+use Prim.Native.Nat.{ℕ, ◌<◌}
 use native.Mathlib.Omega.{arith}
 use lib.Dec.{eqb}
-use borrow.Author.Tests.{eqb-true, eqb-false, eq-eqb, ne_eqb}
+use borrow.Author.Tests.{eq-eqb, ne_eqb}
+use Rattle.std.specs.Prelude.{Option, None, Some, is_none}
+use Rattle.lists.specs.Kept.{kept}
+use Rattle.lists.proofs.Kept.{none_is}
 use Rattle.lists.proofs.Tests.{both}
 use Rattle.lists.proofs.Found.{found}
 use Rattle.turn.specs.Table.{table}
+use Rattle.turn.specs.Turn.{fault_after}
 use Rattle.turn.specs.declared.Removal.TheVariants.{Nobody}
 use Rattle.turn.proofs.GoneLaws.{takes_itself}
-use Rattle.demand3.proofs.Model.{State, first_after, Marked, owns, acts, rests, owner, role, arrived, row, leaves, drops, learns, hold, step}
+use Rattle.demand3.proofs.Model.{State, Marked, owns, acts, rests, owner, role, arrived, row, leaves, drops, learns, hold, step}
 use Rattle.demand3.proofs.Model.{Sound, Faulty, Terms}
 
 -- a seat is sound or faulty
@@ -22,9 +26,9 @@ pub data Kind (s : State) (p : ℕ) : Type 0 where
 pub kind : (s : State) (p : ℕ) → p < s.n → Kind s p
 kind s p h = go (s.fault p) refl
   where
-    go : (f : ℕ) → s.fault p ≡ f → Kind s p
-    go zero e = sound (record { seat = h; clean = e })
-    go (suc f) e = faulty f (record { seat = h; since = e })
+    go : (o : Option ℕ) → s.fault p ≡ o → Kind s p
+    go None e = sound (record { seat = h; clean = e })
+    go (Some f) e = faulty f (record { seat = h; since = e })
 
 -- a seat is sound, or none is
 pub data SomeSound (s : State) : Type 0 where
@@ -32,11 +36,11 @@ pub data SomeSound (s : State) : Type 0 where
   none : ((p : ℕ) → Sound s p → ⊥) → SomeSound s
 
 pub some_sound : (s : State) → SomeSound s
-some_sound s = go (found (λ p. eqb (s.fault p) 0) s.n)
+some_sound s = go (found (λ p. is_none (s.fault p)) s.n)
   where
-    go : ((p : ℕ) × (p < s.n) × (eqb (s.fault p) 0 ≡ true)) ⊎ ((p : ℕ) → p < s.n → eqb (s.fault p) 0 ≡ false) → SomeSound s
-    go (inl (p, h, e)) = some p (record { seat = h; clean = eqb-true _ _ e })
-    go (inr h) = none (λ p sp. eqb-false (s.fault p) 0 (h p sp.seat) sp.clean)
+    go : ((p : ℕ) × (p < s.n) × (is_none (s.fault p) ≡ true)) ⊎ ((p : ℕ) → p < s.n → is_none (s.fault p) ≡ false) → SomeSound s
+    go (inl (p, h, e)) = some p (record { seat = h; clean = none_is _ e })
+    go (inr h) = none (λ p sp. true≢false (sym (ap is_none sp.clean) ∙ h p sp.seat))
 
 -- ---- roles, and the sets after a step
 
@@ -135,18 +139,22 @@ module _ (t : Marked) (p : ℕ) where
 -- ---- first faults
 
 pub differ : {s : State} {x f p : ℕ} → Faulty s x f → Sound s p → x ≡ p → ⊥
-differ {s} x p i = omega (arith, ap s.fault i, x.since, p.clean)
+differ {s} x p i = cc (ap s.fault i, x.since, p.clean)
 
--- one that is kept is never changed
-first_kept : (held : Bool) (since fault f : ℕ) → fault ≡ suc f → first_after held since fault ≡ suc f
-first_kept true since fault f e = rw (ne_eqb fault 0 (omega arith)) e
-first_kept false since fault f e = e
+-- a seat has one first fault
+pub one_first : {s : State} {x y f g : ℕ} → Faulty s x f → Faulty s y g → x ≡ y → f ≡ g
+one_first {s} {f = f} {g = g} x y i = let e : Some f ≡ Some g = sym x.since ∙ ap s.fault i ∙ y.since in omega (arith, ap kept e)
+
+-- which is never changed
+first_kept : (held : Bool) (time f : ℕ) (fault : Option ℕ) → fault ≡ Some f → fault_after held time fault ≡ Some f
+first_kept true time f fault e = rw e
+first_kept false time f fault e = e
 
 module _ (t : Marked) {p : ℕ} where
   open t use {now}
 
   pub stays_faulty : {f : ℕ} → Faulty now p f → Faulty (step t) p f
-  stays_faulty {f} x = record { seat = x.seat; since = first_kept (hold t p) (suc now.time) (now.fault p) f x.since }
+  stays_faulty {f} x = record { seat = x.seat; since = first_kept (hold t p) now.time f (now.fault p) x.since }
 
   pub back_sound : Sound (step t) p → Sound now p
   back_sound x = go (kind now p x.seat)

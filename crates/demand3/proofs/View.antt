@@ -2,12 +2,11 @@
 use mathlib.Core.Bool.{Bool, false, not, ◌&&◌}
 use mathlib.Core.Logic.{⊎_elim}
 use mathlib.Core.Path.{◌≡◌, sym, ap, ◌∙◌, subst}
-use Prim.Native.Nat.{ℕ, suc, ◌≤◌}
+use Prim.Native.Nat.{ℕ, ◌≤◌}
 use native.Mathlib.Numerals.{add-one}
 use lib.Dec.{eqb, ltb}
 use borrow.Author.Tests.{ltb-true, ltb-false}
 use Rattle.std.specs.Prelude.{Option}
-use Rattle.lists.specs.Kept.{kept}
 use Rattle.lists.proofs.Tests.{both}
 use Rattle.seats.specs.Sets.{has_seat}
 use Rattle.seats.proofs.Sets.{nobody_in}
@@ -20,9 +19,9 @@ use Rattle.turn.specs.declared.Seat.{Seat}
 use Rattle.turn.specs.declared.Slot.{Slot}
 use Rattle.turn.proofs.GoneLaws.{takes_itself, takes_owner, gone_has}
 use Rattle.steps.proofs.Seen.{view_table, view_missed}
-use Rattle.turn.proofs.TurnLaws.{turn_elim, kept_after}
+use Rattle.turn.proofs.TurnLaws.{turn_elim}
 use Rattle.steps.proofs.After.{seat_after, seat_beyond}
-use Rattle.demand3.proofs.Model.{State, first_after, Marked, owns, acts, rests, role}
+use Rattle.demand3.proofs.Model.{State, Marked, owns, acts, rests, role}
 use Rattle.demand3.proofs.Model.{speaks, row, learns, hold, left, step}
 use Rattle.demand3.proofs.Seat.{role_own, role_act, role_out, role_blind, Still, still}
 
@@ -33,7 +32,7 @@ state_of r = record {
   set = λ p q. has_seat (seat_of r p).set q;
   ack = λ p. (seat_of r p).ack;
   doubt = λ p. (seat_of r p).doubt;
-  fault = λ p. kept (seat_of r p).fault;
+  fault = λ p. (seat_of r p).fault;
 }
 
 -- a step of it with its marks
@@ -47,7 +46,7 @@ record Matches (t : Marked) (p : ℕ) (s : Seat) : Type 0 where
   set : (q : ℕ) → has_seat s.set q ≡ (step t).set p q
   ack : s.ack ≡ (step t).ack p
   doubt : s.doubt ≡ (step t).doubt p
-  fault : kept s.fault ≡ (step t).fault p
+  fault : s.fault ≡ (step t).fault p
 
 module _ (r : Ring) (send : Bool) (receive : ℕ) where
   abbrev slot : Slot
@@ -61,8 +60,8 @@ module _ (r : Ring) (send : Bool) (receive : ℕ) where
   bit = (seat_of r (owner_of r)).ack
 
   -- where as much took hold, the first fault is the same
-  first_is : {held : Bool} (mark : Bool) (fault : Option ℕ) → held ≡ mark → kept (fault_after mark r.time fault) ≡ first_after held (suc r.time) (kept fault)
-  first_is mark fault e = kept_after mark r.time fault ∙ rw (e, add-one r.time)
+  first_is : {held : Bool} (mark : Bool) (fault : Option ℕ) → held ≡ mark → fault_after mark r.time fault ≡ fault_after held r.time fault
+  first_is mark fault e = rw e
 
   module _ (p : ℕ) where
     abbrev s : Seat

@@ -3,8 +3,9 @@
 use mathlib.Core.Path.{◌≡◌, refl, sym, ap, ◌∙◌}
 use mathlib.Core.Bool.{true, false, cond}
 use mathlib.Core.List.{List, ◌++◌, append_assoc}
-use mathlib.Core.Logic.{◌⊎◌, inl, inr}
+use mathlib.Core.Logic.{◌⊎◌, inl, inr, ⊎_elim}
 use Prim.Native.Nat.{ℕ, ◌≤◌}
+use native.Mathlib.Omega.{arith}
 use lib.Dec.{leb}
 use lib.ListN.{length}
 use lib.Seq.{take_all}
@@ -25,7 +26,7 @@ use Rattle.run.specs.Outcome.{Heard, Result, heard}
 use Rattle.run.specs.declared.Shown.{Shown}
 use Rattle.run.specs.declared.Ran.{Ran}
 use Rattle.report.specs.Page.{bus_line, faults_line, refused_line, printable, sections, ran_page, page_of, result_of}
-use Rattle.report.specs.Promise.{page_most, Prints}
+use Rattle.report.specs.Promise.{page_most, Prints, PrintsOrZero}
 use Rattle.report.specs.Inside.{Writes, up_to_faults}
 use Rattle.text.specs.Lent.{lent}
 use Rattle.text.specs.declared.Lent.{Lent}
@@ -87,3 +88,20 @@ module _ (text : List ℕ) {page : MutBor (List ℕ)} {end : Lent} (w : Writes t
     result = e ∙ length_of (both (leb (length text) (length page.now)));
     short = w.short;
   }
+
+-- ---- for callers
+
+-- what is given back never reaches past the buffer
+pub within_page : (text page : List ℕ) (r : Option ℕ) (page' : List ℕ) → Prints text page r page' → (m : ℕ) → r ≡ Some m → m ≤ length page
+within_page text page r page' a m i =
+    ⊎_elim
+    (λ e. let z : Some m ≡ Some (length text) = sym i ∙ a.result ∙ rw e in let k : m ≡ length text = cc z in omega (arith, leb-true (length text) (length page) e))
+    (λ e. let z : Some m ≡ None = sym i ∙ a.result ∙ rw e in absurd (cc z))
+    (both (leb (length text) (length page)))
+
+pub within_buffer : (text page : List ℕ) (r : ℕ) (page' : List ℕ) → PrintsOrZero text page r page' → r ≤ length page
+within_buffer text page r page' a =
+    ⊎_elim
+    (λ e. let z : r ≡ length text = a.result ∙ rw e in omega (arith, leb-true (length text) (length page) e))
+    (λ e. let z : r ≡ 0 = a.result ∙ rw e in omega arith)
+    (both (leb (length text) (length page)))

@@ -5,7 +5,7 @@ use Prim.Native.Nat.{ℕ, ◌+◌, ◌*◌, ◌≤◌, ◌<◌}
 use native.Mathlib.Omega.{arith}
 use lib.ListN.{length, set}
 use Rattle.std.specs.Prelude.{None}
-use Rattle.lists.proofs.Counted.{draw_next, draw_same, sum_at_most}
+use Rattle.lists.proofs.Counted.{draw_next, draw_same, drawn_above, sum_at_most}
 use Rattle.turn.specs.declared.Seat.{Seat}
 use Rattle.turn.specs.declared.Slot.{Slot}
 use Rattle.turn.proofs.GoneLaws.{count_is, count_few}
@@ -37,6 +37,15 @@ stored r p s = record {
 pub drawn_next : (r : Ring) (seat : ℕ → Seat) (p : ℕ) → Wide r p → stored (drawn_to p r seat) p (seat p) ≡ drawn_to (p + 1) r seat
 drawn_next r seat p w =
     rw (draw_next p (λ q. (seat q).set) r.sets w.sets, draw_next p (λ q. (seat q).ack) r.acks w.acks, draw_next p (λ q. (seat q).doubt) r.doubts w.doubts, draw_next p (λ q. (seat q).fault) r.faults w.faults)
+
+-- a seat that is not drawn yet is as it came
+pub undrawn_seat : (k : ℕ) (r : Ring) (seat : ℕ → Seat) (p : ℕ) → k ≤ p → seat_of (drawn_to k r seat) p ≡ seat_of r p
+undrawn_seat k r seat p l = λ i. record {
+  set = drawn_above k (λ q. (seat q).set) r.sets 0 p l i;
+  ack = drawn_above k (λ q. (seat q).ack) r.acks false p l i;
+  doubt = drawn_above k (λ q. (seat q).doubt) r.doubts false p l i;
+  fault = drawn_above k (λ q. (seat q).fault) r.faults None p l i;
+}
 
 -- a seat that keeps all is drawn already
 pub drawn_still : (r : Ring) (seat : ℕ → Seat) (p : ℕ) → Wide r p → seat p ≡ seat_of r p → drawn_to p r seat ≡ drawn_to (p + 1) r seat

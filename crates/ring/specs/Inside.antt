@@ -5,13 +5,11 @@ use Rattle.limits.specs.Limits.{seats_most, slots_most}
 use Rattle.limits.specs.Refusals.{refused_at}
 use Rattle.limits.specs.declared.Refused.{Refused}
 use Rattle.limits.specs.declared.Refusal.TheVariants.{WrongMark, AtTheEnd, NotARing}
-use Rattle.lists.specs.Counted.{sum}
 use Rattle.turn.specs.declared.Slot.{Slot}
 use Rattle.ring.specs.Ring.{is_ring, drawn_to}
-use Rattle.ring.specs.Step.{slot_of, turn_at, count_at}
+use Rattle.ring.specs.Step.{slot_of, turn_at}
 use Rattle.ring.specs.Refusals.{marks_stand}
 use Rattle.ring.specs.declared.Ring.{Ring}
-use Rattle.ring.specs.declared.draw.Drawn.{Drawn}
 
 -- the step's slot, with so much room, or the first of the refusals 10, 6 and 9
 unfoldable pub slot_told : Ring → Bool → ℕ → ℕ → Result Slot Refused
@@ -27,6 +25,6 @@ pub record Drawable (r : Ring) (c : Slot) : Type 0 where
   pub seats : r.n ≤ seats_most
   pub owner : c.owner < seats_most
 
--- the turns of the seats below k drawn, and their records counted
-abbrev pub drawn_of : Ring → Slot → ℕ → Drawn
-drawn_of r c k = record { ring = drawn_to k r (λ p. (turn_at r c p).seat); count = sum k (count_at r c) }
+-- every seat of it after its turn
+abbrev pub drawn_of : Ring → Slot → Ring
+drawn_of r c = drawn_to r.n r (λ p. (turn_at r c p).seat)

@@ -80,7 +80,7 @@ impl Ring {
         ensures { StepPromise self send receive trail.old result trail.new }
     {
         let mut ring = self;
-        let answer = ring.take(send, receive, trail);
+        let answer = self.take(&mut ring, send, receive, trail);
         Stepped { answer, ring }
     }
 
@@ -107,28 +107,33 @@ impl Ring {
         }
     }
 
-    // The step taken in its place; a refused one leaves ring and trail as they are. The records are counted before
-    // any is written, so that a step without room leaves no trace. Most steps remove nobody, and then no seat is
-    // looked at again.
-    fn take(&mut self, send: bool, receive: u32, trail: &mut [u8]) -> Result<(), Refused>
-        ensures { StepPromise self.old send receive trail.old (record { answer = result; ring = self.new }) trail.new }
+    // The step taken in `next`, which comes as the ring is; a refused one leaves it so, and the trail as it is. The
+    // records are counted before any is written, so that a step without room leaves no trace. Most steps remove nobody,
+    // and then no seat is looked at again. Besides `next` the ring is not copied.
+    fn take(
+        &self,
+        next: &mut Ring,
+        send: bool,
+        receive: u32,
+        trail: &mut [u8],
+    ) -> Result<(), Refused>
+        requires { next.old ≡ self.now }
+        ensures { StepPromise self.now send receive trail.old (record { answer = result; ring = next.new }) trail.new }
     {
         let room = trail::room_for(trail.len());
         let slot = self.slot(send, receive, room)?;
-        let drawn = draw::draw(self, slot);
+        let count = draw::draw(next, slot);
         let records = self.records as usize;
-        let total = records + drawn.count;
+        let total = records + count;
         if room < total {
+            *next = *self;
             return Err(Refusal::NoRoom.at(self.time as usize));
         }
-        if drawn.count != 0 {
+        if count != 0 {
             draw::write(self, slot, trail);
         }
-        *self = Ring {
-            time: self.time + 1,
-            records: total as u16,
-            ..drawn.ring
-        };
+        next.time = self.time + 1;
+        next.records = total as u16;
         Ok(())
     }
 

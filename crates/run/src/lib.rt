@@ -67,33 +67,34 @@ fn judged(bus: Bus, ring: Ring, modules: [u16; limits::SEATS_MOST]) -> Ran
     }
 }
 
-// A fresh ring through all the slots of a sheet: nothing of the sheet is copied in a slot.
+// A fresh ring through all the slots of a sheet: nothing of the sheet is copied in a slot, and the ring no more than
+// the step does.
 fn through(sheet: &Sheet, trail: &mut [u8]) -> Ran
     requires { GoodSheet sheet.now }
     ensures { Leaves (run_sheet sheet.now trail.old) result trail.new }
 {
     let modules = sheet.modules;
-    let mut ring = Ring::zero().fresh(sheet.n).ring;
+    let mut stepped = Ring::zero().fresh(sheet.n);
     let mut gathered = Gathered::none();
     for at in 0..sheet.slot_count {
         let whole = gathered.with_slot(sheet, at);
         let owner = at % sheet.n;
         let given = whole.given_by(owner);
+        let ring = &stepped.ring;
         if spoken(owner, ring.sets[owner], ring.acks[owner], given.send) != sheet.slots[at] {
-            return judged(Bus::Differs(at as u16), ring, modules);
+            return judged(Bus::Differs(at as u16), stepped.ring, modules);
         }
-        let stepped = ring.step(given.send, given.receive, trail);
-        ring = stepped.ring;
+        stepped = stepped.ring.step(given.send, given.receive, trail);
         if let Err(refused) = stepped.answer {
             return Ran {
                 answer: Err(refused),
-                ring,
+                ring: stepped.ring,
                 modules,
             };
         }
         gathered = whole.slot_over();
     }
-    judged(Bus::Agrees, ring, modules)
+    judged(Bus::Agrees, stepped.ring, modules)
 }
 
 // Read the sheet and run it. A refused sheet takes no step, leaves the trail and gives the zero ring.

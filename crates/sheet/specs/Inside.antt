@@ -1,6 +1,6 @@
 -- What the reader's private functions answer, in the words of the definitions. Nothing that is promised of
 -- `read` rests on this file.
-use Rattle.std.specs.Prelude.{ℕ, ◌-◌, ◌≡◌, List, length, get_or, set, take, Result, Ok, Err}
+use Rattle.std.specs.Prelude.{ℕ, ◌-◌, ◌≡◌, ⊤, List, length, get_or, set, take, Result, Ok, Err}
 use denote.Ref.{Bor}
 use Rattle.std.proofs.Math.Option.{Option, none, some}
 use Rattle.limits.specs.declared.Refusal.{Refusal}
@@ -24,6 +24,16 @@ offence_after n earlier m = mark_offence n (length earlier) (get_or earlier (len
 unfoldable pub next_mark : ℕ → List Mark → List ℕ → ℕ → Found Mark
 next_mark n earlier sheet at =
     and_then (fields_at sheet at) (λ m next. on_option (offence_after n earlier m) (found m next) (λ why. offence why at))
+
+-- a section: its entries and the place after them, or its offence
+abbrev pub entered_up_to : {A : Type 0} → Result ℕ Refused → List A → Found (List A)
+entered_up_to (Ok at) list = found list at
+entered_up_to (Err r) list = offence r.why r.place
+
+-- a sheet that was filled, or its offence
+abbrev pub filled : Result ⊤ Refused → Sheet → Result Sheet Refused
+filled (Ok nothing) sheet = Ok sheet
+filled (Err r) sheet = Err r
 
 -- what bytes are read as, without the place of their end
 abbrev pub read_of : Found Sheet → Result Sheet Refused

@@ -1,10 +1,10 @@
-// What there is without entries: before a line is read, and where a sheet is refused.
+// The sheet without entries: before a line is read, and where a sheet is refused.
 ghost use Rattle.std.specs.Prelude.{◌≡◌};
 ghost use Rattle.sheet.specs.Sheets.{no_sheet};
 
 use crate::{Mark, Sheet};
 
-pub const NO_MARK: Mark = Mark {
+const NO_MARK: Mark = Mark {
     time: 0,
     seat: 0,
     kind: 0,

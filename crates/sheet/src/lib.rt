@@ -3,12 +3,12 @@
 #![tactic(auto)]
 
 ghost use Rattle.std.specs.Prelude.{◌≡◌};
-ghost use Rattle.sheet.specs.Sheets.{sheet_in, ReadPromise};
-ghost use Rattle.sheet.specs.Inside.{read_of};
+ghost use Rattle.sheet.specs.Sheets.{no_sheet, sheet_in, ReadPromise};
+ghost use Rattle.sheet.specs.Inside.{filled, read_of};
 
 use limits::{Refusal, Refused};
 
-mod empty; // empty.rt: what there is without entries
+mod empty; // empty.rt: the sheet without entries
 mod entries; // entries.rt: the lines of a section
 mod modules; // modules.rt: the lines of the first section
 mod marks; // marks.rt: those of the second
@@ -42,36 +42,34 @@ pub struct Reading {
     pub sheet: Sheet,
 }
 
-// Ring, marks and slots, each a count and as many lines, and no bytes after them.
+// Ring, marks and slots into an empty sheet, each a count and as many lines, and no bytes after them.
 #[tactic(auto, unfolding(crate::specs::Sheets::sheet_in))]
-fn sheet_in(bytes: &[u8]) -> Result<Sheet, Refused>
-    ensures { result ≡ read_of (sheet_in bytes.now) }
+fn fill(sheet: &mut Sheet, bytes: &[u8]) -> Result<(), Refused>
+    requires { sheet.old ≡ no_sheet }
+    ensures { filled result sheet.new ≡ read_of (sheet_in bytes.now) }
 {
     let (n, at) = sheet_lines::line(bytes, 0, limits::SEATS_LEAST, limits::SEATS_MOST)?;
-    let (modules, at) = modules::module_lines(bytes, at, n)?;
+    let at = modules::module_lines(&mut sheet.modules, bytes, at, n)?;
     let (mark_count, at) = sheet_lines::line(bytes, at, 0, limits::MARKS_MOST)?;
-    let (marks, at) = marks::mark_lines(bytes, at, n, mark_count)?;
+    let at = marks::mark_lines(&mut sheet.marks, bytes, at, n, mark_count)?;
     let (slot_count, at) = sheet_lines::line(bytes, at, 0, limits::SLOTS_MOST)?;
-    let (slots, end) = slots::slot_lines(bytes, at, slot_count)?;
+    let end = slots::slot_lines(&mut sheet.slots, bytes, at, slot_count)?;
     if end < bytes.len() {
         return Err(Refusal::BytesAfter.at(end));
     }
-    Ok(Sheet {
-        n,
-        modules,
-        mark_count,
-        marks,
-        slot_count,
-        slots,
-    })
+    sheet.n = n;
+    sheet.mark_count = mark_count;
+    sheet.slot_count = slot_count;
+    Ok(())
 }
 
 // Read a sheet. A refused one gives a sheet with no seats, marks or slots.
 pub fn read(bytes: &[u8]) -> Reading
     ensures { ReadPromise bytes.now result }
 {
-    match sheet_in(bytes) {
-        Ok(sheet) => Reading {
+    let mut sheet = empty::no_sheet();
+    match fill(&mut sheet, bytes) {
+        Ok(()) => Reading {
             answer: Ok(()),
             sheet,
         },

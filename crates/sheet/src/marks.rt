@@ -1,14 +1,12 @@
 // The lines of the second section: the marks.
-ghost use Rattle.std.specs.Prelude.{◌≡◌, ◌≤◌, ◌<◌};
-ghost use Rattle.limits.specs.Limits.{seats_most, marks_most};
+ghost use Rattle.std.specs.Prelude.{◌≡◌, ◌≤◌, ◌<◌, length};
+ghost use Rattle.limits.specs.Limits.{seats_most};
 ghost use Rattle.sheet_lines.specs.Pieces.{found_of};
 ghost use Rattle.sheet.specs.Entries.{entries_at};
 ghost use Rattle.sheet.specs.Marks.{mark, above, allowed, mark_line};
-ghost use Rattle.sheet.specs.Sheets.{no_marks};
-ghost use Rattle.sheet.specs.Inside.{offence_after, kept_or, next_mark};
+ghost use Rattle.sheet.specs.Inside.{offence_after, kept_or, next_mark, entered_up_to};
 
 use crate::Mark;
-use crate::empty::NO_MARK;
 use crate::entries::entries;
 use limits::{Refusal, Refused};
 use sheet_lines::Piece;
@@ -71,15 +69,16 @@ fn mark(s: &[u8], at: usize, n: usize, earlier: &[Mark]) -> Piece<Mark>
 }
 
 // So many mark lines from `start` on, of a ring of n seats.
-#[tactic(auto, unfolding(crate::specs::Sheets::no_marks))]
 pub fn mark_lines(
+    list: &mut [Mark],
     s: &[u8],
     start: usize,
     n: usize,
     count: usize,
-) -> Piece<[Mark; limits::MARKS_MOST]>
-    requires { (count ≤ marks_most) × (0 < n) × (n ≤ seats_most) }
-    ensures { found_of result ≡ entries_at (mark_line n s.now) no_marks count start }
+) -> Result<usize, Refused>
+    requires { (count ≤ length list.old) × (0 < n) × (n ≤ seats_most) }
+    ensures read { entered_up_to result list.new ≡ entries_at (mark_line n s.now) list.old count start }
+    ensures long { length list.new ≡ length list.old }
 {
-    entries(NO_MARK, start, count, |earlier, at| mark(s, at, n, earlier))
+    entries(list, start, count, |earlier, at| mark(s, at, n, earlier))
 }

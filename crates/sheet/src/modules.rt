@@ -1,20 +1,22 @@
 // The lines of the first section: the module numbers, all different.
-ghost use Rattle.std.specs.Prelude.{◌≡◌, ◌≤◌};
-ghost use Rattle.limits.specs.Limits.{seats_most};
-ghost use Rattle.sheet_lines.specs.Pieces.{found_of};
+ghost use Rattle.std.specs.Prelude.{◌≡◌, ◌≤◌, length};
 ghost use Rattle.sheet.specs.Entries.{entries_at, module_line};
-ghost use Rattle.sheet.specs.Sheets.{no_modules};
+ghost use Rattle.sheet.specs.Inside.{entered_up_to};
 
 use limits::{Refusal, Refused};
-use sheet_lines::Piece;
 
 // So many module lines from `start` on. No call of `entries`: document 01 wants the search for an equal number
 // nested in the lines, and left by a label.
-pub fn module_lines(s: &[u8], start: usize, count: usize) -> Piece<[u16; limits::SEATS_MOST]>
-    requires { count ≤ seats_most }
-    ensures { found_of result ≡ entries_at (module_line s.now) no_modules count start }
+pub fn module_lines(
+    list: &mut [u16],
+    s: &[u8],
+    start: usize,
+    count: usize,
+) -> Result<usize, Refused>
+    requires { count ≤ length list.old }
+    ensures read { entered_up_to result list.new ≡ entries_at (module_line s.now) list.old count start }
+    ensures long { length list.new ≡ length list.old }
 {
-    let mut list = [0; limits::SEATS_MOST];
     let mut at = start;
     'lines: {
         for k in 0..count {
@@ -28,7 +30,7 @@ pub fn module_lines(s: &[u8], start: usize, count: usize) -> Piece<[u16; limits:
             list[k] = number;
             at = next;
         }
-        return Ok((list, at));
+        return Ok(at);
     }
     Err(Refusal::ModuleTwice.at(at))
 }

@@ -16,7 +16,8 @@ use Rattle.ring.proofs.Records.{length-written}
 use Rattle.ring.specs.declared.Ring.{Ring}
 use Rattle.turn.specs.declared.Slot.{Slot}
 use Rattle.ring.proofs.Checked.{Valid, Member}
-use Rattle.steps.proofs.Drawn.{drawn_seat, undrawn_seat}
+use Rattle.ring.proofs.Drawing.{undrawn_seat}
+use Rattle.steps.proofs.Drawn.{drawn_seat}
 use Rattle.turn.proofs.TurnLaws.{set_le, fault_by}
 
 -- ---- the seats

@@ -19,7 +19,8 @@ use Rattle.ring.specs.Step.{slot_of, ring_after, trail_after}
 use Rattle.trail.specs.Trail.{room_for}
 use Rattle.steps.specs.Run.{Marks, Bench, told_on, step_on, fresh_bench, Reached, start, taken, run_on}
 use Rattle.ring.proofs.Checked.{Valid, Member}
-use Rattle.steps.proofs.Drawn.{drawn_seat, undrawn_seat}
+use Rattle.ring.proofs.Drawing.{undrawn_seat}
+use Rattle.steps.proofs.Drawn.{drawn_seat}
 use Rattle.steps.proofs.Taken.{told_taken, refused_ring, refused_trail, taken_ring, taken_trail}
 use Rattle.trail.proofs.RecordLaws.{room_bytes}
 use Rattle.steps.proofs.After.{valid_after, length_after}

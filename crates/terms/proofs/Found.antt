@@ -9,6 +9,7 @@ use native.Mathlib.Numerals.{add-one}
 use native.Mathlib.Omega.{arith}
 use lib.Dec.{leb, ltb, eqb}
 use lib.ListN.{length, get_or, take}
+use lib.Seq.{ext_get_or}
 use Rattle.std.proofs.Common.{Option, Some, None}
 use Rattle.std.specs.List.{list_all, enumerate_from, filter_map, cons_option, reduce, fold, count_by}
 use Rattle.std.proofs.lemmas.List.{get_or-take, length-take}
@@ -17,8 +18,8 @@ use Rattle.std.proofs.lemmas.List.Folds.{list_all_at}
 use Rattle.std.proofs.lemmas.List.FromFn.{length-enumerate_from, get_or-enumerate_from}
 use Rattle.std.proofs.lemmas.List.Sums.{list_all-from_AllPass, sum_by-cons}
 use borrow.Author.Tests.{lt-ltb, le-leb, lt-leb, ne_eqb, ltb-true, leb-true, leb-false, eqb-false, not-false}
-use Rattle.lists.specs.Counted.{sum, all_below, count_below}
-use Rattle.lists.proofs.Counted.{sum_same, sum_split, sum_mono, below_last}
+use Rattle.lists.specs.Counted.{tab, sum, all_below, count_below}
+use Rattle.lists.proofs.Counted.{length-tab, get_or-tab, sum_same, sum_split, sum_mono, below_last}
 use Rattle.lists.proofs.Tests.{both, and-true, and-false, and_fails, and_of, all_at, all_fails, all_not, first_none, first_is}
 use Rattle.lists.specs.Kept.{kept}
 use Rattle.terms.specs.Terms.{first_of, faulty_by, distance, apart_by, terms_hold, first_failing}
@@ -59,6 +60,20 @@ count_listed d t (x ∷ xs) =
     let e : 1 + length xs ≡ suc (length xs) = omega arith in
     let u : count_by t (x ∷ xs) ≡ cond (t x) 1 0 + count_by t xs = sum_by-cons (λ y. cond (t y) 1 0) x xs in
     omega (arith, u, count_listed d t xs, next, sum_split f 1 (length xs), ap (λ (k : ℕ). sum k f) e)
+
+-- what the loop over the seats looks at, seat by seat
+module _ (faults : List (Option ℕ)) (p f : ℕ) where
+  abbrev pub apart_at : ℕ → Bool
+  apart_at q = eqb q p || not (too_close (length faults) f (get_or faults q None))
+
+  abbrev pub sound_at : ℕ → Bool
+  sound_at q = not (by_step f (get_or faults q None))
+
+  pub holds_at : holds_with faults p f ≡ (all_below (length faults) apart_at && leb 2 (count_below (length faults) sound_at))
+  holds_at =
+      ap₂ (λ (a : Bool) (k : ℕ). a && leb 2 k)
+      (all_listed None (λ x. eqb x.0 p || not (too_close (length faults) f x.1)) faults)
+      (count_listed None (λ g. not (by_step f g)) faults)
 
 all_same : (f g : ℕ → Bool) (k : ℕ) → ((i : ℕ) → i < k → f i ≡ g i) → all_below k f ≡ all_below k g
 all_same f g zero h = refl
@@ -311,96 +326,103 @@ module _ (n : ℕ) (faults : List (Option ℕ)) where
 
   -- ---- the first of them
 
-  module _ (long : n ≤ length faults) where
-    abbrev xs : List (Option ℕ)
-    xs = take n faults
+  -- the first faults of the n seats
+  abbrev pub firsts : List (Option ℕ)
+  firsts = tab n (λ p. get_or faults p None)
 
-    long_is : length xs ≡ n
-    long_is = omega (arith, length-take n faults)
+  long_is : length firsts ≡ n
+  long_is = length-tab n (λ p. get_or faults p None)
 
-    seat_of : (p : ℕ) → p < n → get_or xs p None ≡ get_or faults p None
-    seat_of p l = get_or-take n faults p None l
+  seat_of : (p : ℕ) → p < n → get_or firsts p None ≡ get_or faults p None
+  seat_of p l = get_or-tab n (λ q. get_or faults q None) None p l
 
-    module _ (p f : ℕ) (here : get_or faults p None ≡ Some f) where
-      fault_is : fault p ≡ f + 1
-      fault_is = ap kept here
+  module _ (p f : ℕ) (here : get_or faults p None ≡ Some f) where
+    fault_is : fault p ≡ f + 1
+    fault_is = ap kept here
 
-      apart_is : keeps_apart xs p f ≡ all_below n (apart_of p)
-      apart_is =
-          all_listed None (λ x. eqb x.0 p || not (too_close (length xs) f x.1)) xs
-          ∙ ap (λ (k : ℕ). all_below k (λ q. eqb q p || not (too_close k f (get_or xs q None)))) long_is
-          ∙ all_same (λ q. eqb q p || not (too_close n f (get_or xs q None))) (apart_of p) n
-          (λ q l. ap (λ (b : Bool). eqb q p || not b)
-          (ap (too_close n f) (seat_of q l) ∙ near_is n f (get_or faults q None) ∙ ap (λ (x : ℕ). near n x (fault q)) (sym fault_is)))
+    apart_is : keeps_apart firsts p f ≡ all_below n (apart_of p)
+    apart_is =
+        all_listed None (λ x. eqb x.0 p || not (too_close (length firsts) f x.1)) firsts
+        ∙ ap (λ (k : ℕ). all_below k (λ q. eqb q p || not (too_close k f (get_or firsts q None)))) long_is
+        ∙ all_same (λ q. eqb q p || not (too_close n f (get_or firsts q None))) (apart_of p) n
+        (λ q l. ap (λ (b : Bool). eqb q p || not b)
+        (ap (too_close n f) (seat_of q l) ∙ near_is n f (get_or faults q None) ∙ ap (λ (x : ℕ). near n x (fault q)) (sym fault_is)))
 
-      sound_is : sound_after xs f ≡ sound_with (fault p)
-      sound_is =
-          count_listed None (λ g. not (by_step f g)) xs
-          ∙ ap (λ (k : ℕ). count_below k (λ q. not (by_step f (get_or xs q None)))) long_is
-          ∙ sum_same (λ q. cond (not (by_step f (get_or xs q None))) 1 0) (λ q. cond (not (by_then (fault p) (fault q))) 1 0) n
-          (λ q l. ap (λ (b : Bool). cond (not b) 1 0)
-          (ap (by_step f) (seat_of q l) ∙ by_is f (get_or faults q None) ∙ ap (λ (x : ℕ). by_then x (fault q)) (sym fault_is)))
+    sound_is : sound_after firsts f ≡ sound_with (fault p)
+    sound_is =
+        count_listed None (λ g. not (by_step f g)) firsts
+        ∙ ap (λ (k : ℕ). count_below k (λ q. not (by_step f (get_or firsts q None)))) long_is
+        ∙ sum_same (λ q. cond (not (by_step f (get_or firsts q None))) 1 0) (λ q. cond (not (by_then (fault p) (fault q))) 1 0) n
+        (λ q l. ap (λ (b : Bool). cond (not b) 1 0)
+        (ap (by_step f) (seat_of q l) ∙ by_is f (get_or faults q None) ∙ ap (λ (x : ℕ). by_then x (fault q)) (sym fault_is)))
 
-      holds_is : holds_with xs p f ≡ holds p
-      unfolding holds
-      holds_is = ap₂ (λ (a : Bool) (k : ℕ). a && leb 2 k) apart_is sound_is
+    holds_is : holds_with firsts p f ≡ holds p
+    unfolding holds
+    holds_is = ap₂ (λ (a : Bool) (k : ℕ). a && leb 2 k) apart_is sound_is
 
-    abbrev failing_in : ℕ × Option ℕ → Option ℕ
-    failing_in x = failing_at xs x.0 x.1
+  abbrev failing_in : ℕ × Option ℕ → Option ℕ
+  failing_in x = failing_at firsts x.0 x.1
 
-    seat_is : (p : ℕ) → p < n → failing_in (get_or (enumerate_from 0 xs) p (0, None)) ≡ failing_at xs p (get_or faults p None)
-    seat_is p l =
-        ap failing_in (get_or-enumerate_from 0 xs p (0, None) (omega (arith, long_is)) ∙ ap₂ (λ (a : ℕ) (b : Option ℕ). (a, b)) (zero-add p) (seat_of p l))
+  seat_is : (p : ℕ) → p < n → failing_in (get_or (enumerate_from 0 firsts) p (0, None)) ≡ failing_at firsts p (get_or faults p None)
+  seat_is p l =
+      ap failing_in (get_or-enumerate_from 0 firsts p (0, None) (omega (arith, long_is)) ∙ ap₂ (λ (a : ℕ) (b : Option ℕ). (a, b)) (zero-add p) (seat_of p l))
 
-    -- what fails with a fault is not before the first found
-    found_le : (p : ℕ) → p < n → 0 < fault p → holds p ≡ false → (m : ℕ) × (first_found xs ≡ Some m) × (m + 1 ≤ fault p)
-    found_le p l h e = go (get_or faults p None) refl
+  -- what fails with a fault is not before the first found
+  found_le : (p : ℕ) → p < n → 0 < fault p → holds p ≡ false → (m : ℕ) × (first_found firsts ≡ Some m) × (m + 1 ≤ fault p)
+  found_le p l h e = go (get_or faults p None) refl
+    where
+      go : (o : Option ℕ) → get_or faults p None ≡ o → (m : ℕ) × (first_found firsts ≡ Some m) × (m + 1 ≤ fault p)
+      go None i = absurd (omega (arith, ap kept i))
+      go (Some f) i =
+          let s : failing_in (get_or (enumerate_from 0 firsts) p (0, None)) ≡ Some f = rw (seat_is p l, i, holds_is p f i, e) refl in
+          let r = there failing_in (0, None) (enumerate_from 0 firsts) p f (omega (arith, length-enumerate_from 0 firsts, long_is)) s in
+          let m = least_le (filter_map failing_in (enumerate_from 0 firsts)) r.0 r.1 in
+          (m.0, m.1, omega (arith, m.2, r.2, ap kept i))
+
+  -- and the first found is one of them
+  found_one : (m : ℕ) → first_found firsts ≡ Some m → (p : ℕ) × (p < n) × (fault p ≡ suc m) × (holds p ≡ false)
+  found_one m e =
+      let r = least_one (filter_map failing_in (enumerate_from 0 firsts)) m e in
+      let s = there_from failing_in (0, None) (enumerate_from 0 firsts) r.0 r.1 in
+      let l : s.0 < n = omega (arith, s.1, length-enumerate_from 0 firsts, long_is) in
+      go s.0 l (sym (seat_is s.0 l) ∙ s.2 ∙ ap (λ (x : ℕ). Some x) r.2) (get_or faults s.0 None) refl
+    where
+      told : (p f : ℕ) (here : get_or faults p None ≡ Some f) (b : Bool) → holds p ≡ b → cond (not b) (Some f) None ≡ Some m → p < n
+          → (p : ℕ) × (p < n) × (fault p ≡ suc m) × (holds p ≡ false)
+      told p f here true h i l = absurd (cc)
+      told p f here false h i l = let q : f ≡ m = cc in (p, l, omega (arith, ap kept here, q), h)
+
+      go : (p : ℕ) → p < n → failing_at firsts p (get_or faults p None) ≡ Some m → (o : Option ℕ) → get_or faults p None ≡ o
+          → (p : ℕ) × (p < n) × (fault p ≡ suc m) × (holds p ≡ false)
+      go p l i None h = let z = rw h at i in absurd (cc)
+      go p l i (Some f) h = told p f h (holds p) refl (rw (h, holds_is p f h) at i) l
+
+  module _ (two : 2 ≤ n) (time : ℕ) where
+    abbrev failing : ℕ → Bool
+    failing t = not (terms_hold n faults t)
+
+    -- up to a step before the first found the terms hold
+    holds_before : (t : ℕ) → ((m : ℕ) → first_found firsts ≡ Some m → t < m) → failing t ≡ false
+    holds_before t h = ⊎_elim (λ e. ap not e) (λ e. bad (fails_with t two e)) (both (terms_hold n faults t))
       where
-        go : (o : Option ℕ) → get_or faults p None ≡ o → (m : ℕ) × (first_found xs ≡ Some m) × (m + 1 ≤ fault p)
-        go None i = absurd (omega (arith, ap kept i))
-        go (Some f) i =
-            let s : failing_in (get_or (enumerate_from 0 xs) p (0, None)) ≡ Some f = rw (seat_is p l, i, holds_is p f i, e) refl in
-            let r = there failing_in (0, None) (enumerate_from 0 xs) p f (omega (arith, length-enumerate_from 0 xs, long_is)) s in
-            let m = least_le (filter_map failing_in (enumerate_from 0 xs)) r.0 r.1 in
-            (m.0, m.1, omega (arith, m.2, r.2, ap kept i))
+        bad : Fails t → failing t ≡ false
+        bad w = let r = found_le w.seat w.below w.some w.fails in absurd (omega (arith, h r.0 r.1, r.2, w.by))
 
-    -- and the first found is one of them
-    found_one : (m : ℕ) → first_found xs ≡ Some m → (p : ℕ) × (p < n) × (fault p ≡ suc m) × (holds p ≡ false)
-    found_one m e =
-        let r = least_one (filter_map failing_in (enumerate_from 0 xs)) m e in
-        let s = there_from failing_in (0, None) (enumerate_from 0 xs) r.0 r.1 in
-        let l : s.0 < n = omega (arith, s.1, length-enumerate_from 0 xs, long_is) in
-        go s.0 l (sym (seat_is s.0 l) ∙ s.2 ∙ ap (λ (x : ℕ). Some x) r.2) (get_or faults s.0 None) refl
-      where
-        told : (p f : ℕ) (here : get_or faults p None ≡ Some f) (b : Bool) → holds p ≡ b → cond (not b) (Some f) None ≡ Some m → p < n
-            → (p : ℕ) × (p < n) × (fault p ≡ suc m) × (holds p ≡ false)
-        told p f here true h i l = absurd (cc)
-        told p f here false h i l = let q : f ≡ m = cc in (p, l, omega (arith, ap kept here, q), h)
+    -- nothing is found before the time exactly where the terms hold up to every step before it
+    pub none_found : ((m : ℕ) → first_found firsts ≡ Some m → time ≤ m) → first_failing n faults time ≡ time
+    unfolding first_failing
+    none_found late = first_none failing time (λ t l. holds_before t (λ m e. omega (arith, late m e)))
 
-        go : (p : ℕ) → p < n → failing_at xs p (get_or faults p None) ≡ Some m → (o : Option ℕ) → get_or faults p None ≡ o
-            → (p : ℕ) × (p < n) × (fault p ≡ suc m) × (holds p ≡ false)
-        go p l i None h = let z = rw h at i in absurd (cc)
-        go p l i (Some f) h = told p f h (holds p) refl (rw (h, holds_is p f h) at i) l
+    -- what is found before the time is the first step up to which they fail
+    pub one_found : (m : ℕ) → first_found firsts ≡ Some m → m < time → first_failing n faults time ≡ m
+    unfolding first_failing
+    one_found m e l =
+        let r = found_one m e in
+        first_is failing time m l (ap not (fails_up_to r.0 m r.1 r.2 r.3)) (λ j i. holds_before j (λ k h. let q : k ≡ m = cc in omega arith))
 
-    module _ (two : 2 ≤ n) (time : ℕ) where
-      abbrev failing : ℕ → Bool
-      failing t = not (terms_hold n faults t)
-
-      -- up to a step before the first found the terms hold
-      holds_before : (t : ℕ) → ((m : ℕ) → first_found xs ≡ Some m → t < m) → failing t ≡ false
-      holds_before t h = ⊎_elim (λ e. ap not e) (λ e. bad (fails_with t two e)) (both (terms_hold n faults t))
-        where
-          bad : Fails t → failing t ≡ false
-          bad w = let r = found_le w.seat w.below w.some w.fails in absurd (omega (arith, h r.0 r.1, r.2, w.by))
-
-      -- nothing is found before the time exactly where the terms hold up to every step before it
-      pub none_found : ((m : ℕ) → first_found xs ≡ Some m → time ≤ m) → first_failing n faults time ≡ time
-      unfolding first_failing
-      none_found late = first_none failing time (λ t l. holds_before t (λ m e. omega (arith, late m e)))
-
-      -- what is found before the time is the first step up to which they fail
-      pub one_found : (m : ℕ) → first_found xs ≡ Some m → m < time → first_failing n faults time ≡ m
-      unfolding first_failing
-      one_found m e l =
-          let r = found_one m e in
-          first_is failing time m l (ap not (fails_up_to r.0 m r.1 r.2 r.3)) (λ j i. holds_before j (λ k h. let q : k ≡ m = cc in omega arith))
+-- the slice that the code searches, where there are so many
+pub slice_is : (n : ℕ) (faults : List (Option ℕ)) → n ≤ length faults → take n faults ≡ firsts n faults
+slice_is n faults h =
+    let e : length (take n faults) ≡ n = omega (arith, length-take n faults) in
+    ext_get_or None (take n faults) (firsts n faults) (e ∙ sym (long_is n faults))
+    (λ p l. let m : p < n = omega (arith, e) in get_or-take n faults p None m ∙ sym (seat_of n faults p m))

@@ -3,7 +3,7 @@
 
 ghost use Rattle.std.specs.Prelude.{◌≡◌, cond};
 ghost use Rattle.limits.specs.Limits.{seats_stand};
-ghost use Rattle.terms.specs.Search.{by_step, too_close, keeps_apart, sound_after, holds_with, failing_at, first_found};
+ghost use Rattle.terms.specs.Search.{by_step, too_close, holds_with, failing_at, first_found};
 ghost use Rattle.terms.specs.Terms.{first_failing};
 
 // The first fault g, if any, is by step f.
@@ -20,29 +20,21 @@ fn too_close(n: usize, f: u16, g: Option<u16>) -> bool
     g.is_some_and(|g| g <= f && usize::from(f - g) <= n)
 }
 
-// Whether the first fault f of seat p keeps apart: no other seat's is too close before it.
-fn keeps_apart(faults: &[Option<u16>], p: usize, f: u16) -> bool
-    ensures { result ≡ keeps_apart faults.now p f }
-{
-    let n = faults.len();
-    faults
-        .iter()
-        .enumerate()
-        .all(|(q, &g)| q == p || !too_close(n, f, g))
-}
-
-// How many seats are sound after step f.
-fn sound_after(faults: &[Option<u16>], f: u16) -> usize
-    ensures { result ≡ sound_after faults.now f }
-{
-    faults.iter().filter(|&&g| !by_step(f, g)).count()
-}
-
-// Whether the terms hold up to the first fault f of seat p, as far as that fault is concerned.
+// Whether the terms hold up to the first fault f of seat p, as far as that fault is concerned: no other seat's is too
+// close before it, and two seats at least are sound after it. The seats are gone over once for both.
 fn holds_with(faults: &[Option<u16>], p: usize, f: u16) -> bool
     ensures { result ≡ holds_with faults.now p f }
 {
-    keeps_apart(faults, p, f) && 2 <= sound_after(faults, f)
+    let n = faults.len();
+    let mut sound = 0;
+    for q in 0..n {
+        let g = faults[q];
+        if q != p && too_close(n, f, g) {
+            return false;
+        }
+        sound += usize::from(!by_step(f, g));
+    }
+    2 <= sound
 }
 
 // The first fault f of seat p, where there is one and the terms fail with it.

@@ -12,6 +12,7 @@ use std::io::{Read, Write};
 use std::rt::Files;
 use std::{fs, io};
 
+// What is refused is written here as in `try_engine`: a `Display` of it would have a library name `std` (`.ci/axioms`).
 fn report(out: &mut impl Write, name: &[u8], bytes: &[u8]) -> io::Result<()> {
     let Reading { answer, sheet } = sheet::read(bytes);
     out.write_all(name)?;

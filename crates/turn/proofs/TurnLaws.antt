@@ -68,7 +68,7 @@ kept_after false time fault = refl
 kept_after true time None = refl
 kept_after true time (Some t) = rw (ne_eqb (t + 1) 0 (omega arith)) refl
 
-fault_le : (held : Bool) (time : ℕ) (fault : Option ℕ) → kept fault ≤ time + 1 → kept (fault_after held time fault) ≤ time + 1
+pub fault_le : (held : Bool) (time : ℕ) (fault : Option ℕ) → kept fault ≤ time + 1 → kept (fault_after held time fault) ≤ time + 1
 fault_le held time fault l =
     rw kept_after (⊎_elim (λ e. rw e (le_refl (time + 1))) (λ e. rw e l) (both (held && eqb (kept fault) 0)))
 

@@ -36,7 +36,7 @@ promise sheet r g at {trail} {marks} {s} {t'} given p = subst (λ (x : SlotMarks
 
 pub loop-at-init : goal.loop-at-init
 loop-at-init c =
-    let e = fresh_given c.args.sheet.now c.requires _ c.fresh.ensures in
+    let e = fresh_given c.args.sheet.now c.requires _ c.fresh-stepped.ensures in
     rw (e, c.none-gathered.ensures) (going_start c.args.sheet.now c.args.trail.now)
 
 pub with_slot-whole-requires-clause-gathers : goal.with_slot-whole-requires-clause-gathers
@@ -48,9 +48,9 @@ returns-then-spoken-sheet c =
     let l = c.loop-at in
     let w = c.with_slot-whole in
     let go = going_gathered l.invariant w.ensures.gathers in
-    leaves sheet l.ring l.trail _ _ c.judged.ensures
+    leaves sheet l.stepped.ring l.trail _ _ c.judged.ensures
     (going_differs go c.requires c.loop-at-test.true w.ensures.whole
-    (λ e. c.if-spoken-sheet.true (said sheet l.ring w.result l.at go c.requires c.loop-at-test.true w.ensures.whole c.given_by-given.ensures c.spoken.ensures ∙ e)))
+    (λ e. c.if-spoken-sheet.true (said sheet l.stepped.ring w.result l.at go c.requires c.loop-at-test.true w.ensures.whole c.given_by-given.ensures c.spoken.ensures ∙ e)))
 
 pub returns-in-Err : goal.returns-in-Err
 returns-in-Err c =
@@ -58,9 +58,9 @@ returns-in-Err c =
     let l = c.loop-at in
     let w = c.with_slot-whole in
     let go = going_gathered l.invariant w.ensures.gathers in
-    let heard = sym (said sheet l.ring w.result l.at go c.requires c.loop-at-test.true w.ensures.whole c.given_by-given.ensures c.spoken.ensures) ∙ c.if-spoken-sheet.false in
+    let heard = sym (said sheet l.stepped.ring w.result l.at go c.requires c.loop-at-test.true w.ensures.whole c.given_by-given.ensures c.spoken.ensures) ∙ c.if-spoken-sheet.false in
     leaves sheet c.step-stepped.result.ring c.step-stepped.new.trail _ _ (record { answer = refl; ring = refl; modules = refl })
-    (going_stops go c.requires c.loop-at-test.true w.ensures.whole heard (promise sheet l.ring w.result l.at c.given_by-given.ensures c.step-stepped.ensures) (ap tells c.in-Err.is))
+    (going_stops go c.requires c.loop-at-test.true w.ensures.whole heard (promise sheet l.stepped.ring w.result l.at c.given_by-given.ensures c.step-stepped.ensures) (ap tells c.in-Err.is))
 
 pub loop-at-preserved : goal.loop-at-preserved
 loop-at-preserved c =
@@ -68,10 +68,10 @@ loop-at-preserved c =
     let l = c.loop-at in
     let w = c.with_slot-whole in
     let go = going_gathered l.invariant w.ensures.gathers in
-    let heard = sym (said sheet l.ring w.result l.at go c.requires c.loop-at-test.true w.ensures.whole c.given_by-given.ensures c.spoken.ensures) ∙ c.if-spoken-sheet.false in
+    let heard = sym (said sheet l.stepped.ring w.result l.at go c.requires c.loop-at-test.true w.ensures.whole c.given_by-given.ensures c.spoken.ensures) ∙ c.if-spoken-sheet.false in
     rw c.slot_over-gathered.ensures
-    (going_on go c.requires c.loop-at-test.true w.ensures.whole heard (promise sheet l.ring w.result l.at c.given_by-given.ensures c.step-stepped.ensures) (ap tells c.in_default.is))
+    (going_on go c.requires c.loop-at-test.true w.ensures.whole heard (promise sheet l.stepped.ring w.result l.at c.given_by-given.ensures c.step-stepped.ensures) (ap tells c.in_default.is))
 
 pub returns : goal.returns
 returns c =
-    leaves c.args.sheet.now c.loop-at.ring c.loop-at.trail _ _ c.judged-2.ensures (going_over c.loop-at.invariant (omega (arith, c.loop-at-test.false)))
+    leaves c.args.sheet.now c.loop-at.stepped.ring c.loop-at.trail _ _ c.judged-2.ensures (going_over c.loop-at.invariant (omega (arith, c.loop-at-test.false)))

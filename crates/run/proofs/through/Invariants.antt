@@ -4,4 +4,4 @@ use Rattle.run.proofs.Running.{Going}
 use Rattle.run.proofs.through.Given as goal
 
 abbrev pub invariant-loop-at : goal.invariant-loop-at
-invariant-loop-at l = Going l.sheet (run_sheet l.sheet l.initial.trail) l.trail l.ring l.gathered l.at
+invariant-loop-at l = Going l.sheet (run_sheet l.sheet l.initial.trail) l.trail l.stepped.ring l.gathered l.at
