@@ -26,15 +26,14 @@ fn holds_with(faults: &[Option<u16>], p: usize, f: u16) -> bool
     ensures { result ≡ holds_with faults.now p f }
 {
     let n = faults.len();
+    let mut apart = true;
     let mut sound = 0;
     for q in 0..n {
         let g = faults[q];
-        if q != p && too_close(n, f, g) {
-            return false;
-        }
+        apart &= q == p || !too_close(n, f, g);
         sound += usize::from(!by_step(f, g));
     }
-    2 <= sound
+    apart && 2 <= sound
 }
 
 // The first fault f of seat p, where there is one and the terms fail with it.
